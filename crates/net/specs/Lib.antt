@@ -1,0 +1,5 @@
+pub mod Refusals
+pub mod Marks
+pub mod Walks
+pub mod Visits
+pub mod Answers

@@ -1,0 +1,5 @@
+// Nets of 1 to 96 nodes, and the walks that are written once for all of them.
+pub mod circle;
+pub mod fault;
+mod marks;
+pub mod nets;
