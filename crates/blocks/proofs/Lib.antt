@@ -1,0 +1,4 @@
+pub mod Digits
+pub mod Lowering
+pub mod Sharing
+pub mod Tallies
