@@ -4,6 +4,7 @@ use mathlib.Core.Bool.{Bool, true, false, not, cond, _&&_}
 use Prim.Native.Nat.{ℕ, zero, suc, _+_, _-_, _*_, _/_, _%_, _^_, _<_, _≤_}
 use native.Mathlib.Nat.{pow-suc, div-one, add-assoc, zero-add, add-zero}
 use native.Mathlib.Omega.{arith}
+use native.Mathlib.Numerals.{add-one}
 use lib.Bits.{bitAnd, and-shr, and-mod, and-lt}
 use lib.Count.{ones, ones-step, ones-le}
 use lib.Dec.{eqb}
@@ -74,3 +75,18 @@ lacked-ones s o hs ho =
     ∙ tally-same 64 (has (bitAnd s ((2 ^ 64 - 1) - o))) (λ b. has s b && not (has o b)) (λ k l.
       ap (λ x. eqb x 1) (ap (λ x. x % 2) (and-shr s ((2 ^ 64 - 1) - o) k) ∙ and-mod (s / 2 ^ k) (((2 ^ 64 - 1) - o) / 2 ^ k) 1 ∙ ap (bitAnd (s / 2 ^ k % 2)) (other-digit 64 o k ho l))
       ∙ both-digits (s / 2 ^ k % 2) (o / 2 ^ k % 2) (omega arith) (omega arith))
+
+pub tally-none : (test : ℕ → Bool) → tally 0 test ≡ 0
+unfolding tally
+tally-none test = refl
+
+-- one number more
+pub tally-more : (n : ℕ) (test : ℕ → Bool) → tally (n + 1) test ≡ tally n test + cond (test n) 1 0
+unfolding tally
+tally-more n test = rw add-one
+
+pub tally-in : (n count : ℕ) (test : ℕ → Bool) → count ≡ tally n test → test n ≡ true → count + 1 ≡ tally (n + 1) test
+tally-in n count test e t = sym (tally-more n test ∙ ap₂ (λ x b. x + cond b 1 0) (sym e) t)
+
+pub tally-out : (n count : ℕ) (test : ℕ → Bool) → count ≡ tally n test → test n ≡ false → count ≡ tally (n + 1) test
+tally-out n count test e t = sym (tally-more n test ∙ ap₂ (λ x b. x + cond b 1 0) (sym e) t ∙ add-zero count)

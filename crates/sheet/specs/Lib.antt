@@ -1,0 +1,4 @@
+pub mod Conflicts
+pub mod Movement
+pub mod Moving
+pub mod Refusals

@@ -1,0 +1,66 @@
+// The movement net of a train.
+ghost use mathlib.Core.Path.{_≡_};
+ghost use mathlib.Core.Bool.{true};
+ghost use mathlib.Core.Logic.{_↔_};
+ghost use Prim.Native.Nat.{ℕ, _≤_, _<_};
+ghost use lib.Dec.{lit≤};
+ghost use denote.Ref.{now as pointed};
+ghost use Rattle.listing.specs.Listings.{yard};
+ghost use Rattle.sheet.specs.Movement.{arcs, weighs as weighing};
+ghost use Rattle.sheet.specs.Moving.{arcs-inside, weighs-limited};
+use listing::content::Listing;
+use listing::content::MOST_PLACES;
+use listing::place::Destination;
+use net::nets::Net;
+use net::nets::WeightedNet;
+use net::nets::MOST_NODES;
+
+// The moves of a train as arcs: arrival at place p is node p, and train t out is node 84 + t.
+#[derive(Clone, Copy)]
+pub struct MovementNet<'a> {
+    listing: &'a Listing,
+    train: usize,
+}
+
+pub impl Net for MovementNet<'_> as MovementNetNet {
+    ghost nodes = { λ n. 96 };
+
+    ghost arc = { λ n. arcs (yard (pointed (n .listing))) (n .train) };
+
+    ghost ranged = { λ n. (lit≤ tt, lit≤ tt) };
+
+    ghost inside = { λ n a b e. arcs-inside (pointed (n .listing)) (n .train) a b e };
+
+    fn node_count(&self) -> usize {
+        MOST_NODES
+    }
+
+    fn has_arc(&self, from: usize, to: usize) -> bool {
+        let Some(left) = self.listing.place(from) else {
+            return false;
+        };
+        if left.train != self.train {
+            return false;
+        }
+        if to < MOST_PLACES {
+            return self.listing.has_move(from, Destination::Place(to));
+        }
+        to - MOST_PLACES == self.train && self.listing.has_move(from, Destination::Out)
+    }
+}
+
+pub impl WeightedNet for MovementNet<'_> as MovementNetWeightedNet {
+    ghost weighs = { λ n. weighing (yard (pointed (n .listing))) };
+
+    ghost limited = { λ n a b. weighs-limited (yard (pointed (n .listing))) a b };
+
+    fn weight(&self, from: usize, to: usize) -> i32 {
+        let Some(left) = self.listing.place(from) else {
+            return 0;
+        };
+        let Some(entered) = self.listing.place(to) else {
+            return 0;
+        };
+        entered.blocks.count_not_in(left.blocks) as i32
+    }
+}
