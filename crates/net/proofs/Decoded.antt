@@ -1,8 +1,7 @@
 -- The byte behind a mark.
-use mathlib.Core.Path.{_≡_, refl, sym}
+use mathlib.Core.Path.{_≡_, refl}
 use Prim.Native.Nat.{ℕ, zero, suc, _≤_}
 use native.Mathlib.Omega.{arith}
-use borrow.Author.Tests.{clash}
 use Rattle.net.specs.Marks.{mark-of}
 use Rattle.net.specs.declared.marks.Mark.the-variants.{Unseen, OnPath, Done}
 

@@ -1,3 +1,4 @@
 pub mod Counts
 pub mod Decoded
 pub mod Searches
+pub mod Ways

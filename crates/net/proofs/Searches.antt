@@ -1,15 +1,14 @@
 -- The steps of the circle search.
 use mathlib.Core.Path.{_≡_, refl, sym, _∙_, subst}
-use mathlib.Core.Bool.{Bool, true, false}
+use mathlib.Core.Bool.{Bool, true}
 use mathlib.Core.Logic.{_⊎_, inl, inr, _≢_}
-use mathlib.Core.List.{List, [], _∷_}
-use Prim.Native.Nat.{ℕ, zero, suc, _+_, _-_, _<_, _≤_}
+use mathlib.Core.List.{List}
+use Prim.Native.Nat.{ℕ, _+_, _-_, _<_, _≤_}
 use native.Mathlib.Omega.{arith}
 use lib.ListN.{length, getD, set}
 use Rattle.std.proofs.shelf.Lists.{getD-set-same, getD-set-other, length-set}
-use Rattle.std.proofs.shelf.Tests.{cases-eq, both-ways}
+use Rattle.std.proofs.shelf.Tests.{cases-eq}
 use borrow.Author.Count.{below-more}
-use Rattle.std.specs.declared.option.Option.{Option}
 use Rattle.std.specs.declared.option.Option.the-variants.{Some, None}
 use Rattle.net.specs.Walks.{Walk, OnCircle, NoCircle, last, then}
 use Rattle.net.specs.Marks.{Cleared}
@@ -68,9 +67,9 @@ module _ (arc : ℕ → ℕ → Bool) (nodes : ℕ) (few : nodes ≤ 96) (inside
     pub going-first : Going arc nodes first first at 0
     going-first =
         let back : (v : ℕ) → getD first v 0 ≡ 2 → getD m v 0 ≡ 2 =
-            λ v e. elim (cases-eq v at) [ inl s ↦ absurd (let z : getD first v 0 ≡ 1 = rw s at-set in omega arith) | inr ne ↦ sym (other-set v ne) ∙ e ] in
+        λ v e. elim (cases-eq v at) [ inl s ↦ absurd (let z : getD first v 0 ≡ 1 = rw s at-set in omega arith) | inr ne ↦ sym (other-set v ne) ∙ e ] in
         let forth : (v : ℕ) → getD m v 0 ≡ 2 → getD first v 0 ≡ 2 =
-            λ v e. elim (cases-eq v at) [ inl s ↦ absurd (let z : getD m v 0 ≡ 0 = rw s (ready .unseen) in omega arith) | inr ne ↦ other-set v ne ∙ e ] in
+        λ v e. elim (cases-eq v at) [ inl s ↦ absurd (let z : getD m v 0 ≡ 0 = rw s (ready .unseen) in omega arith) | inr ne ↦ other-set v ne ∙ e ] in
         record {
           grown = λ v. inl refl;
           done = record {
@@ -85,10 +84,11 @@ module _ (arc : ℕ → ℕ → Bool) (nodes : ℕ) (few : nodes ≤ 96) (inside
       -- a node on the path is `at`, or was on the path before
       on-path : (v : ℕ) → getD m′ v 0 ≡ 1 → (v ≡ at) ⊎ (getD m v 0 ≡ 1)
       on-path v e = elim (cases-eq v at) [
-          inl s ↦ inl s
-        | inr ne ↦ inr (elim (going .grown v) [ inl s ↦ sym (other-set v ne) ∙ sym s ∙ e | inr s ↦ absurd (omega arith) ]) ]
+        | inl s ↦ inl s
+        | inr ne ↦ inr (elim (going .grown v) [ inl s ↦ sym (other-set v ne) ∙ sym s ∙ e | inr s ↦ absurd (omega arith) ])
+      ]
 
-      own-path : getD m′ at 0 ≡ 1
+      pub own-path : getD m′ at 0 ≡ 1
       own-path = elim (going .grown at) [ inl s ↦ s ∙ at-set | inr s ↦ absurd (let z = at-set in omega arith) ]
 
       pub others-kept : (k : ℕ) → nodes ≤ k → getD m′ k 0 ≡ getD m k 0
@@ -98,10 +98,12 @@ module _ (arc : ℕ → ℕ → Bool) (nodes : ℕ) (few : nodes ≤ 96) (inside
 
       pub kinds-kept : (v : ℕ) → v < nodes → getD m′ v 0 ≤ 2
       kinds-kept v l = elim (going .grown v) [
-          inl s ↦ elim (cases-eq v at) [
-              inl t ↦ (let z : getD first v 0 ≡ 1 = rw t at-set in omega arith)
-            | inr ne ↦ (let z = other-set v ne in let y = ready .kinds v l in omega arith) ]
-        | inr s ↦ omega arith ]
+        | inl s ↦ elim (cases-eq v at) [
+          | inl t ↦ (let z : getD first v 0 ≡ 1 = rw t at-set in omega arith)
+          | inr ne ↦ (let z = other-set v ne in let y = ready .kinds v l in omega arith)
+        ]
+        | inr s ↦ omega arith
+      ]
 
       pub fewer-unseen : unseen m′ < unseen m
       fewer-unseen =
@@ -112,8 +114,9 @@ module _ (arc : ℕ → ℕ → Bool) (nodes : ℕ) (few : nodes ≤ 96) (inside
       -- a walk from a node on the path goes on by an arc from `at`
       path-on : (v to : ℕ) → v < nodes → getD m′ v 0 ≡ 1 → arc at to ≡ true → Walk arc v to
       path-on v to l e h = elim (on-path v e) [
-          inl s ↦ (let P : ℕ → Type 0 = λ x. Walk arc x to in subst P (sym s) (last h))
-        | inr s ↦ walk-on (ready .path v l s) h ]
+        | inl s ↦ (let P : ℕ → Type 0 = λ x. Walk arc x to in subst P (sym s) (last h))
+        | inr s ↦ walk-on (ready .path v l s) h
+      ]
 
       pub circle-met : arc at next ≡ true → getD m′ next 0 ≡ 1 → OnCircle arc next
       circle-met h e = path-on next next (inside at next h .1) e h
@@ -139,11 +142,12 @@ module _ (arc : ℕ → ℕ → Bool) (nodes : ℕ) (few : nodes ≤ 96) (inside
       pub going-after : (m″ : List ℕ) → length m″ ≡ length m′ → Passed arc nodes m′ m″ next → Going arc nodes first m″ at (next + 1)
       going-after m″ n p = record {
         grown = λ v. elim (p .grown v) [
-            inl s ↦ elim (going .grown v) [ inl t ↦ inl (s ∙ t) | inr t ↦ inr (t .0, t .1, s ∙ t .2) ]
-          | inr s ↦ elim (going .grown v) [ inl t ↦ inr (s .0, sym t ∙ s .1, s .2) | inr t ↦ absurd (omega arith) ] ];
+          | inl s ↦ elim (going .grown v) [ inl t ↦ inl (s ∙ t) | inr t ↦ inr (t .0, t .1, s ∙ t .2) ]
+          | inr s ↦ elim (going .grown v) [ inl t ↦ inr (s .0, sym t ∙ s .1, s .2) | inr t ↦ absurd (omega arith) ]
+        ];
         done = p .done;
         seen = below-more (λ w. arc at w ≡ true → getD m″ w 0 ≡ 2) next
-          (λ w l h. elim (p .grown w) [ inl s ↦ s ∙ going .seen w l h | inr s ↦ s .2 ]) (λ _. p .own);
+            (λ w l h. elim (p .grown w) [ inl s ↦ s ∙ going .seen w l h | inr s ↦ s .2 ]) (λ _. p .own);
         size = n ∙ going .size;
       }
 
@@ -169,25 +173,30 @@ module _ (arc : ℕ → ℕ → Bool) (nodes : ℕ) (few : nodes ≤ 96) (inside
           let here : getD (set m′ at 2) at 0 ≡ 2 = getD-set-same m′ at 2 0 within in
           let there : (v : ℕ) → v ≢ at → getD (set m′ at 2) v 0 ≡ getD m′ v 0 = λ v ne. getD-set-other m′ at v 2 0 ne in
           let two : (v : ℕ) → getD m′ v 0 ≡ 2 → getD (set m′ at 2) v 0 ≡ 2 =
-              λ v e. elim (cases-eq v at) [ inl s ↦ rw s here | inr ne ↦ there v ne ∙ e ] in
+          λ v e. elim (cases-eq v at) [ inl s ↦ rw s here | inr ne ↦ there v ne ∙ e ] in
           let no-way : (w : ℕ) → arc at w ≡ true → Walk arc w at → ⊥ =
-              λ w h k. (let z : getD m′ at 0 ≡ 2 = reach-done (going .done) (going .seen w (inside at w h .1) h) k in omega arith) in
+          λ w h k. (let z : getD m′ at 0 ≡ 2 = reach-done (going .done) (going .seen w (inside at w h .1) h) k in omega arith) in
           let alone : OnCircle arc at → ⊥ = λ c. elim (walk-first c) [
-              inl h ↦ (let z : getD m′ at 0 ≡ 2 = going .seen at (ready .inside) h in omega arith)
-            | inr p ↦ no-way (p .0) (p .1) (p .2) ] in
+            | inl h ↦ (let z : getD m′ at 0 ≡ 2 = going .seen at (ready .inside) h in omega arith)
+            | inr p ↦ no-way (p .0) (p .1) (p .2)
+          ] in
           record {
             grown = λ v. elim (cases-eq v at) [
-                inl s ↦ inr (rw s (ready .inside), rw s (ready .unseen), rw s here)
+              | inl s ↦ inr (rw s (ready .inside), rw s (ready .unseen), rw s here)
               | inr ne ↦ elim (going .grown v) [
-                  inl t ↦ inl (there v ne ∙ t ∙ other-set v ne)
-                | inr t ↦ inr (t .0, sym (other-set v ne) ∙ t .1, there v ne ∙ t .2) ] ];
+                | inl t ↦ inl (there v ne ∙ t ∙ other-set v ne)
+                | inr t ↦ inr (t .0, sym (other-set v ne) ∙ t .1, there v ne ∙ t .2)
+              ]
+            ];
             done = record {
               closed = λ v w l e h. elim (cases-eq v at) [
-                  inl s ↦ two w (going .seen w (inside v w h .1) (rw s at h))
-                | inr ne ↦ two w (going .done .closed v w l (sym (there v ne) ∙ e) h) ];
+                | inl s ↦ two w (going .seen w (inside v w h .1) (rw s at h))
+                | inr ne ↦ two w (going .done .closed v w l (sym (there v ne) ∙ e) h)
+              ];
               free = λ v l e c. elim (cases-eq v at) [
-                  inl s ↦ alone (rw s at c)
-                | inr ne ↦ going .done .free v l (sym (there v ne) ∙ e) c ];
+                | inl s ↦ alone (rw s at c)
+                | inr ne ↦ going .done .free v l (sym (there v ne) ∙ e) c
+              ];
             };
             own = here;
           }
@@ -238,11 +247,12 @@ module _ (arc : ℕ → ℕ → Bool) (nodes : ℕ) (few : nodes ≤ 96) (inside
           size = r .size ∙ between .size;
           others = λ k l. r .others k (omega arith) ∙ between .others k l;
           kinds = λ v l. elim (p .grown v) [
-              inl s ↦ elim (between .kinds v l) [ inl t ↦ inl (s ∙ t) | inr t ↦ inr (s ∙ t) ]
-            | inr s ↦ inr (s .2) ];
+            | inl s ↦ elim (between .kinds v l) [ inl t ↦ inl (s ∙ t) | inr t ↦ inr (s ∙ t) ]
+            | inr s ↦ inr (s .2)
+          ];
           done = p .done;
           seen = below-more (λ w. getD m″ w 0 ≡ 2) start
-            (λ w l. elim (p .grown w) [ inl s ↦ s ∙ between .seen w l | inr s ↦ s .2 ]) (p .own);
+              (λ w l. elim (p .grown w) [ inl s ↦ s ∙ between .seen w l | inr s ↦ s .2 ]) (p .own);
         }
 
   walk-from : {a b : ℕ} → Walk arc a b → a < nodes

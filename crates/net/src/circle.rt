@@ -3,7 +3,6 @@ ghost use mathlib.Core.Path.{_≡_};
 ghost use denote.Ref.{name};
 ghost use Rattle.net.specs.Visits.{Ready, Visited};
 ghost use Rattle.net.specs.Answers.{Searched};
-
 use crate::fault::WalkFault;
 use crate::marks::Mark;
 use crate::marks::Marks;

@@ -4,7 +4,6 @@ ghost use Prim.Native.Nat.{ℕ, _<_, _≤_};
 ghost use lib.ListN.{length, getD, set};
 ghost use denote.Ref.{name};
 ghost use Rattle.net.specs.Marks.{Cleared, mark-of, byte-of};
-
 use crate::nets::MOST_NODES;
 
 // What a walk knows of a node.

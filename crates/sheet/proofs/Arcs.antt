@@ -8,9 +8,10 @@ use lib.Dec.{eqb, ltb}
 use lib.IntN.{ℤ, pos}
 use Rattle.std.proofs.shelf.Tests.{and-from, and-left, and-right, lt-ltb, le-ltb, eq-eqb, ne-eqb, cond-true, cond-false}
 use Rattle.blocks.specs.Members.{lacked}
-use Rattle.listing.specs.Yards.{Yard}
+use Rattle.listing.specs.Yards.{Yard, Same}
 use Rattle.listing.specs.declared.place.Destination.the-variants.{Place, Out}
 use Rattle.sheet.specs.Movement.{arcs, weighs}
+use Rattle.sheet.specs.Moving.{arcs-leads}
 
 module _ (y : Yard) (t a b : ℕ) where
   pub arcs-missing : y .places ≤ a → arcs y t a b ≡ false
@@ -53,3 +54,10 @@ module _ (y : Yard) (a b : ℕ) where
   pub weighs-to-none : y .places ≤ b → weighs y a b ≡ pos 0
   unfolding weighs
   weighs-to-none h = cond-false (ltb a (y .places) && ltb b (y .places)) _ _ (and-right (ltb a (y .places)) (ltb b (y .places)) (le-ltb _ _ h))
+
+-- yards that say the same have the same arcs
+pub arcs-carried : (y z : Yard) → Same y z → (t a b : ℕ) → arcs y t a b ≡ true → arcs z t a b ≡ true
+unfolding arcs
+arcs-carried y z s t a b e =
+    let known = arcs-leads y t a b e .known in
+    rw (s .places, s .owner a known, s .move a (Place b), s .move a Out) e

@@ -2,7 +2,7 @@
 use Prim.Native.Nat.{ℕ, _<_, _≤_}
 use mathlib.Core.Path.{_≡_, refl, sym, _∙_, ap, ap₂}
 use mathlib.Core.Bool.{Bool, true, false, not, _&&_}
-use mathlib.Core.Logic.{_≢_, inl, inr}
+use mathlib.Core.Logic.{_≢_, _↔_, inl, inr}
 use native.Mathlib.Omega.{arith}
 use lib.Dec.{eqb, ltb}
 use Rattle.std.proofs.shelf.Tests.{and-parts, and-from, and-left, ltb-true, lt-ltb, le-ltb, not-true, not-from-false, eqb-false, ne-eqb, eq-eqb, cases-lt, cases-bool, both-ways}
@@ -32,6 +32,10 @@ unfolding conflict
 holds-conflict y a c k =
     and-from _ _ (and-from _ _ (lt-ltb _ _ (k .first)) (lt-ltb _ _ (k .second)))
     (and-from _ _ (not-from-false _ (ne-eqb _ _ (k .others))) (common-shared _ _ (k .common)))
+
+-- so an answer that is the test tells of conflict
+pub tells : (y : Yard) (a c : ℕ) (r : Bool) → r ≡ conflict y a c → (r ≡ true) ↔ Conflict y a c
+tells y a c r e = (λ t. conflict-holds y a c (sym e ∙ t), λ k. e ∙ holds-conflict y a c k)
 
 turned : (y : Yard) (a c : ℕ) → Conflict y a c → Conflict y c a
 turned y a c k = record {

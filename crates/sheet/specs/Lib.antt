@@ -1,4 +1,8 @@
 pub mod Conflicts
 pub mod Movement
 pub mod Moving
+pub mod Lawful
+pub mod Checks
 pub mod Refusals
+pub mod Sheets
+pub mod Answers

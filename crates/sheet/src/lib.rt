@@ -1,4 +1,6 @@
 // Sheets: the listed content with the rules of the whole yard, and what follows from them.
-pub mod conflict;
+mod check;
+mod conflict;
 pub mod fault;
 pub mod movement;
+pub mod sheet;

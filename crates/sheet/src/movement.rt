@@ -6,7 +6,7 @@ ghost use Prim.Native.Nat.{ℕ, _≤_, _<_};
 ghost use lib.Dec.{lit≤};
 ghost use denote.Ref.{now as pointed};
 ghost use Rattle.listing.specs.Listings.{yard};
-ghost use Rattle.sheet.specs.Movement.{arcs, weighs as weighing};
+ghost use Rattle.sheet.specs.Movement.{arcs, Leads, weighs as weighing};
 ghost use Rattle.sheet.specs.Moving.{arcs-inside, weighs-limited};
 use listing::content::Listing;
 use listing::content::MOST_PLACES;
@@ -20,6 +20,17 @@ use net::nets::MOST_NODES;
 pub struct MovementNet<'a> {
     listing: &'a Listing,
     train: usize,
+}
+
+impl<'a> MovementNet<'a> {
+    // The net of a train of the sheet; of an unknown train it has no arcs.
+    pub fn of(listing: &'a Listing, train: usize) -> MovementNet<'a>
+        ensures content { λ r. ⌜ now (r .listing) ≡ now (listing .entry) ⌝ }
+        ensures train { λ r. ⌜ r .train ≡ train ⌝ }
+        ensures moves { λ r. ⌜ ((a b : ℕ) → (arcs (yard (now (r .listing))) (r .train) a b ≡ true) ↔ Leads (yard (now (listing .entry))) train a b) ⌝ }
+    {
+        MovementNet { listing, train }
+    }
 }
 
 pub impl Net for MovementNet<'_> as MovementNetNet {

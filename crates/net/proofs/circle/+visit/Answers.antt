@@ -1,12 +1,11 @@
 use mathlib.Core.Path.{_≡_, refl, sym, _∙_, subst}
 use Prim.Native.Nat.{_<_, _≤_}
 use native.Mathlib.Omega.{arith}
-use lib.ListN.{length, getD}
-use Rattle.std.proofs.shelf.Lists.{length-set}
+use lib.ListN.{getD}
 use Rattle.std.proofs.shelf.Tests.{both-ways}
 use Rattle.net.proofs.Counts.{unseen}
 use Rattle.net.proofs.Decoded.{byte-unseen, byte-on-path, byte-done}
-use Rattle.net.proofs.Searches.{going-first, fewer-unseen, ready-next, circle-met, going-past, going-after, passed-all, others-kept, kinds-kept, visited-here, visited-on, visited-all, going-room}
+use Rattle.net.proofs.Searches.{going-first, fewer-unseen, ready-next, circle-met, going-past, going-after, kinds-kept, visited-here, visited-on, visited-all, going-room}
 use Rattle.net.proofs.circle.+visit.Needs as need
 use Rattle.net.proofs.circle.+visit.Needs.{then-has-arc·in-Unseen·in-rest, then-has-arc·in-Done, else-has-arc}
 
@@ -49,20 +48,21 @@ returns-in-OnPath g t c =
     }
 
 pub loop-next-again : need.loop-next-again
-loop-next-again g t c = 
+loop-next-again g t c =
     let net = c .args .net .now in
     let going = c .loop-next .inv .1 in
     let few = g .N·Net .ranged net .1 in
     elim (c .if-has-arc .came) [
-        then-has-arc·in-Unseen·in-rest w ↦
+      | then-has-arc·in-Unseen·in-rest w ↦
           (let met = w .in-rest .ensures tt in
-           rw (w .marks-is) (met .lent ∙ c .loop-next .inv .0, going-after _ _ (g .N·Net .ranged net .1) (g .N·Net .inside net) _ _ (c .pre) _ (c .put .ensures .written) _ _ going _ (met .visited .size) (met .visited .answer)))
+          rw (w .marks-is) (met .lent ∙ c .loop-next .inv .0, going-after _ _ (g .N·Net .ranged net .1) (g .N·Net .inside net) _ _ (c .pre) _ (c .put .ensures .written) _ _ going _ (met .visited .size) (met .visited .answer)))
       | then-has-arc·in-Done w ↦
           (let kind = kinds-kept _ _ (g .N·Net .ranged net .1) (g .N·Net .inside net) _ _ (c .pre) _ (c .put .ensures .written) _ _ going (c .loop-next .next) (omega arith) in
-           let far : 2 ≤ getD (c .loop-next .marks .bytes .now) (c .loop-next .next) 0 = byte-done _ (w .in-Done .ensures tt) in
-           rw (w .marks-is) (c .loop-next .inv .0, going-past _ _ (g .N·Net .ranged net .1) (g .N·Net .inside net) _ _ (c .pre) _ (c .put .ensures .written) _ _ going (λ _. omega (arith, kind, far))))
+          let far : 2 ≤ getD (c .loop-next .marks .bytes .now) (c .loop-next .next) 0 = byte-done _ (w .in-Done .ensures tt) in
+          rw (w .marks-is) (c .loop-next .inv .0, going-past _ _ (g .N·Net .ranged net .1) (g .N·Net .inside net) _ _ (c .pre) _ (c .put .ensures .written) _ _ going (λ _. omega (arith, kind, far))))
       | else-has-arc w ↦
-          rw (w .marks-is) (c .loop-next .inv .0, going-past _ _ (g .N·Net .ranged net .1) (g .N·Net .inside net) _ _ (c .pre) _ (c .put .ensures .written) _ _ going (λ h. absurd (both-ways _ (sym (w .if-has-arc .ensures tt)) h))) ]
+          rw (w .marks-is) (c .loop-next .inv .0, going-past _ _ (g .N·Net .ranged net .1) (g .N·Net .inside net) _ _ (c .pre) _ (c .put .ensures .written) _ _ going (λ h. absurd (both-ways _ (sym (w .if-has-arc .ensures tt)) h)))
+    ]
 
 pub put-requires-2 : need.put-requires-2
 put-requires-2 g t c κs =

@@ -13,12 +13,12 @@ pub loop-a-again : need.loop-a-again
 loop-a-again c = elim (c .if-in-conflict .came) [
   | then-in-conflict w ↦ (
     w .count-is
-        ∙ tally-in (c .loop-a .a) (c .loop-a .count) (λ a. conflict (yard (c .args .listing .now)) a (c .args .place)) (c .loop-a .inv .0) (sym (w .if-in-conflict .ensures tt)),
+        ∙ tally-in (c .loop-a .a) (c .loop-a .count) (λ a. conflict (yard (c .args .listing .now)) a (c .args .place)) (c .loop-a .inv .0) (sym (w .if-in-conflict .ensures tt .value)),
     omega (arith, w .count-is),
   )
   | else-in-conflict w ↦ (
     w .count-is
-        ∙ tally-out (c .loop-a .a) (c .loop-a .count) (λ a. conflict (yard (c .args .listing .now)) a (c .args .place)) (c .loop-a .inv .0) (sym (w .if-in-conflict .ensures tt)),
+        ∙ tally-out (c .loop-a .a) (c .loop-a .count) (λ a. conflict (yard (c .args .listing .now)) a (c .args .place)) (c .loop-a .inv .0) (sym (w .if-in-conflict .ensures tt .value)),
     omega (arith, w .count-is),
   )
 ]
