@@ -4,5 +4,6 @@ pub mod Moving
 pub mod Lawful
 pub mod Checks
 pub mod Refusals
+pub mod Counts
 pub mod Sheets
 pub mod Answers
