@@ -6,7 +6,7 @@ use native.Mathlib.Omega.{arith}
 use native.Mathlib.Numerals.{add-one}
 use native.Mathlib.Decide.{ℕ-discrete, decLt}
 use lib.Dec.{ltb}
-use mathlib.Core.Logic.{inl, inr}
+use mathlib.Core.Logic.{_⊎_, inl, inr}
 use Rattle.std.proofs.shelf.Tests.{or-left, or-right, or-cases, both-ways}
 use borrow.Author.Tests.{le-ltb, lt-ltb, ltb-true}
 use Rattle.listing.specs.Scans.{Each, First, lowest, any, summed}
@@ -48,6 +48,19 @@ lowest-passes (suc n) test h = go (ltb (lowest n test) n) refl (test n) refl (lo
     go false e true k before = rw (e, k, k)
     go false e false k before = absurd (let far : lowest (suc n) test ≡ suc n = rw (e, k) in omega arith)
 
+-- one passes
+pub lowest-below : (n : ℕ) (test : ℕ → Bool) (i : ℕ) → i < n → test i ≡ true → lowest n test < n
+lowest-below zero test i h t = absurd (omega arith)
+lowest-below (suc n) test i h t = go (ltb (lowest n test) n) refl (test n) refl (λ k. lowest-below n test i k t)
+  where
+    go : (a : Bool) → ltb (lowest n test) n ≡ a → (here : Bool) → test n ≡ here → (i < n → lowest n test < n) → lowest (suc n) test < suc n
+    go true e here k before = rw e (let below = ltb-true _ _ e in omega arith)
+    go false e true k before = rw (e, k) (omega arith)
+    go false e false k before = elim (ℕ-discrete n i) [
+      | yes at ↦ absurd (both-ways (test n) k (ap test at ∙ t))
+      | no other ↦ absurd (both-ways _ e (lt-ltb _ _ (before (omega arith))))
+    ]
+
 -- two tests that agree below n
 pub lowest-same : (n : ℕ) (a c : ℕ → Bool) → Each n (λ i. a i ≡ c i) → lowest n a ≡ lowest n c
 lowest-same zero a c h = refl
@@ -67,25 +80,37 @@ summed-same (suc n) f g h =
     rw (e, k)
 
 -- the count by another name
-pub first-count : {n m : ℕ} {passes : ℕ → Type 0} {fails : ℕ → ℕ → Type 0} {place : ℕ} → n ≡ m
-    → First n passes fails place → First m passes fails place
+pub first-count : {F : Type 0} {n m : ℕ} {passes : ℕ → Type 0} {fails : ℕ → F → Type 0} {fault : F} → n ≡ m
+    → First n passes fails fault → First m passes fails fault
 first-count e f = record { at = f .at; below = let h = f .below in omega arith; fault = f .fault; earlier = f .earlier }
 
 pub each-count : {n m : ℕ} {passes : ℕ → Type 0} → n ≡ m → Each n passes → Each m passes
 each-count e h i k = h i (omega arith)
 
--- the first fault is at one place
-pub first-once : (n : ℕ) (passes : ℕ → Type 0) (fails : ℕ → ℕ → Type 0)
-    → ((i p : ℕ) → passes i → fails i p → ⊥) → ((i p q : ℕ) → fails i p → fails i q → p ≡ q)
-    → (p q : ℕ) → First n passes fails p → First n passes fails q → p ≡ q
-first-once n passes fails apart once p q a c = elim (decLt (a .at) (c .at)) [
-  | yes h ↦ absurd (apart (a .at) p (c .earlier (a .at) h) (a .fault))
+-- there is one first fault
+pub first-once : {F : Type 0} (n : ℕ) (passes : ℕ → Type 0) (fails : ℕ → F → Type 0)
+    → ((i : ℕ) (f : F) → passes i → fails i f → ⊥) → ((i : ℕ) (f g : F) → fails i f → fails i g → f ≡ g)
+    → (f g : F) → First n passes fails f → First n passes fails g → f ≡ g
+first-once n passes fails apart once f g a c = elim (decLt (a .at) (c .at)) [
+  | yes h ↦ absurd (apart (a .at) f (c .earlier (a .at) h) (a .fault))
   | no nh ↦ elim (decLt (c .at) (a .at)) [
-    | yes k ↦ absurd (apart (c .at) q (a .earlier (c .at) k) (c .fault))
+    | yes k ↦ absurd (apart (c .at) g (a .earlier (c .at) k) (c .fault))
     | no nk ↦
         let e : a .at ≡ c .at = omega arith in
-        once (c .at) p q (subst (λ i. fails i p) e (a .fault)) (c .fault)
+        once (c .at) f g (subst (λ i. fails i f) e (a .fault)) (c .fault)
   ]
+]
+
+-- where each number passes or fails, all pass or there is a first fault
+pub first-or-all : {F : Type 0} (n : ℕ) (passes : ℕ → Type 0) (fails : ℕ → F → Type 0)
+    → ((i : ℕ) → passes i ⊎ ((f : F) × fails i f)) → Each n passes ⊎ ((f : F) × First n passes fails f)
+first-or-all zero passes fails at = inl (λ i h. absurd (omega arith))
+first-or-all (suc n) passes fails at = elim (first-or-all n passes fails at) [
+  | inl each ↦ elim (at n) [
+    | inl here ↦ inl (λ i h. elim (ℕ-discrete n i) [ yes e ↦ subst passes e here | no ne ↦ each i (omega arith) ])
+    | inr w ↦ inr (w .0, record { at = n; below = omega arith; fault = w .1; earlier = each })
+  ]
+  | inr w ↦ inr (w .0, record { at = w .1 .at; below = let h = w .1 .below in omega arith; fault = w .1 .fault; earlier = w .1 .earlier })
 ]
 
 pub any-more : (n : ℕ) (test : ℕ → Bool) → any (n + 1) test ≡ (any n test || test n)

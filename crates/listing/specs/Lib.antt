@@ -4,3 +4,7 @@ pub mod Yards
 pub mod Shape
 pub mod Tables
 pub mod Listings
+pub mod Refusals
+pub mod Bytes
+pub mod Order
+pub mod Rules

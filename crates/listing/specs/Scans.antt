@@ -6,11 +6,11 @@ use lib.Dec.{ltb}
 abbrev pub Each : ℕ → (ℕ → Type 0) → Type 0
 Each n passes = (i : ℕ) → i < n → passes i
 
--- the first number that does not pass fails at the given place
-pub record First (n : ℕ) (passes : ℕ → Type 0) (fails : ℕ → ℕ → Type 0) (place : ℕ) : Type 0 where
+-- the first number that does not pass fails so
+pub record First {F : Type 0} (n : ℕ) (passes : ℕ → Type 0) (fails : ℕ → F → Type 0) (f : F) : Type 0 where
   pub at : ℕ
   pub below : at < n
-  pub fault : fails at place
+  pub fault : fails at f
   pub earlier : Each at passes
 
 -- the lowest number below n that the test is true of, or n

@@ -6,9 +6,12 @@ use crate::place::Move;
 use crate::place::Place;
 
 pub mod getters;
+pub mod reading;
 
 pub const MOST_TRAINS: usize = 12;
+
 pub const MOST_PLACES: usize = 84;
+
 pub const MOST_MOVES: usize = 200;
 
 // Trains, places and moves as listed. Places and moves stand in the first entries of their tables.

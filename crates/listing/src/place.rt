@@ -3,8 +3,8 @@ ghost use mathlib.Core.Path.{_≡_};
 ghost use Rattle.listing.specs.Moves.{leads as leading, same-destination};
 use blocks::Blocks;
 use blocks::BlocksDebug;
-use blocks::BlocksPartialEq;
 use blocks::BlocksEq;
+use blocks::BlocksPartialEq;
 
 // A set of blocks that one train holds together.
 #[derive(Clone, Copy, Debug, PartialEq, Eq)]

@@ -6,6 +6,7 @@ use mathlib.Core.Logic.{inl, inr}
 use native.Mathlib.Omega.{arith}
 use Rattle.std.proofs.shelf.Tests.{cases-lt}
 use Rattle.net.specs.Walks.{Walk, last, then, NoCircle, Circular}
+use Rattle.listing.proofs.Agreeing.{start-same, same-turned}
 use Rattle.listing.specs.Yards.{Yard, start, Same}
 use Rattle.listing.specs.declared.place.Destination.the-variants.{Place, Out}
 use Rattle.sheet.specs.Conflicts.{conflict, pairs}
@@ -13,8 +14,7 @@ use Rattle.sheet.specs.Lawful.{Lawful, No-circles, Starts-apart, First-circle,
 use Rattle.sheet.specs.Movement.{arcs, Leads}
 use Rattle.sheet.specs.Moving.{arcs-leads}
 use Rattle.sheet.proofs.Arcs.{arcs-missing, arcs-carried}
-use Rattle.sheet.proofs.Conflicting.{conflict-same, pairs-same, same-turned}
-use Rattle.sheet.proofs.Starts.{start-same}
+use Rattle.sheet.proofs.Conflicting.{conflict-same, pairs-same}
 
 module _ (y z : Yard) (s : Same y z) where
   walk-carried : (t : ℕ) {a b : ℕ} → Walk (arcs y t) a b → Walk (arcs z t) a b

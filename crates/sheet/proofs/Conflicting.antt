@@ -11,6 +11,7 @@ use Rattle.blocks.proofs.Sharing.{shared-common, common-shared, shared-comm}
 use Rattle.blocks.proofs.Tallies.{tally-same}
 use Rattle.listing.specs.Scans.{summed}
 use Rattle.listing.specs.Yards.{Yard, Same}
+use Rattle.listing.proofs.Agreeing.{same-turned}
 use Rattle.listing.proofs.Scanned.{summed-same}
 use Rattle.sheet.specs.Conflicts.{Conflict, conflict, pairs}
 
@@ -62,15 +63,6 @@ carried y z s a c k = record {
   second = omega (arith, s .places, k .second);
   others = λ e. k .others (sym (s .owner a (k .first)) ∙ e ∙ s .owner c (k .second));
   common = rw (s .blocks a (k .first), s .blocks c (k .second)) (k .common);
-}
-
-pub same-turned : (y z : Yard) → Same y z → Same z y
-same-turned y z s = record {
-  trains = sym (s .trains);
-  places = sym (s .places);
-  owner = λ p h. sym (s .owner p (omega (arith, s .places)));
-  blocks = λ p h. sym (s .blocks p (omega (arith, s .places)));
-  move = λ p d. sym (s .move p d);
 }
 
 -- yards that say the same have the same conflicts

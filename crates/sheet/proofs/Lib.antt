@@ -5,3 +5,4 @@ pub mod Starts
 pub mod Agreeing
 pub mod Fresh
 pub mod Kept
+pub mod Exact

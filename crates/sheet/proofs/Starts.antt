@@ -6,10 +6,10 @@ use mathlib.Core.Logic.{inl, inr}
 use native.Mathlib.Omega.{arith}
 use lib.Dec.{eqb}
 use Rattle.std.proofs.shelf.Tests.{eqb-true, cases-bool, both-ways}
-use Rattle.listing.specs.Scans.{Each, lowest, any}
+use Rattle.listing.specs.Scans.{Each, any}
 use Rattle.listing.specs.Shape.{Owners-known, Trains-placed}
-use Rattle.listing.specs.Yards.{Yard, start, Same}
-use Rattle.listing.proofs.Scanned.{lowest-passes, lowest-same, any-here, any-found}
+use Rattle.listing.specs.Yards.{Yard, start}
+use Rattle.listing.proofs.Scanned.{lowest-passes, any-here, any-found}
 use Rattle.sheet.specs.Checks.{Decides}
 use Rattle.sheet.specs.Conflicts.{conflict}
 use Rattle.sheet.specs.Lawful.{Starts-apart, Shares-start}
@@ -17,11 +17,6 @@ use Rattle.sheet.specs.Lawful.{Starts-apart, Shares-start}
 -- the start of a train that has a place is its own
 pub owner-of-start : (y : Yard) (t : ℕ) → start y t < y .places → y .owner (start y t) ≡ t
 owner-of-start y t h = eqb-true _ _ (lowest-passes (y .places) (λ q. eqb (y .owner q) t) h)
-
-pub start-same : (y z : Yard) → Same y z → (t : ℕ) → start z t ≡ start y t
-start-same y z s t =
-    ap (λ n. lowest n (λ p. eqb (z .owner p) t)) (s .places)
-    ∙ lowest-same (y .places) (λ p. eqb (z .owner p) t) (λ p. eqb (y .owner p) t) (λ p h. ap (λ o. eqb o t) (s .owner p h))
 
 -- a start, and whether it conflicts with a start
 pub decide-shared : (y : Yard) (p t : ℕ) (r : Bool) → p < y .places → t ≡ y .owner p → p ≡ start y t

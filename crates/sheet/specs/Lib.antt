@@ -7,3 +7,5 @@ pub mod Refusals
 pub mod Counts
 pub mod Sheets
 pub mod Answers
+pub mod Reading
+pub mod Admitting

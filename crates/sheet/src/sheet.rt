@@ -4,6 +4,7 @@ ghost use Rattle.sheet.specs.Lawful.{Lawful};
 use listing::content::Listing;
 
 pub mod calls;
+pub mod reading;
 
 #[derive(Clone, Copy)]
 pub struct Sheet {

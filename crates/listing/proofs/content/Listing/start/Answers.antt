@@ -16,8 +16,7 @@ returns-then-self-p c =
     let y = yard (c .args .self .now) in
     let within : c .loop-p .p < c .args .self .now .«place_count» = omega arith in
     let known = drawn y (c .args .self .now .shaped) .owners-known (c .loop-p .p) within in
-    let own : getD (c .args .self .now .places) (c .loop-p .p) no-place .train ≡ c .args .train = c .if-self-p .taken in
-    (
+    let own : getD (c .args .self .now .places) (c .loop-p .p) no-place .train ≡ c .args .train = c .if-self-p .taken in (
       omega (arith, known, own),
       within,
       sym (lowest-is (y .places) (λ p. eqb (y .owner p) (c .args .train)) (c .loop-p .p) within (eq-eqb _ _ own) (c .loop-p .inv)),
