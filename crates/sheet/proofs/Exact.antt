@@ -8,7 +8,10 @@ use native.Mathlib.Omega.{arith}
 use Rattle.std.proofs.shelf.Tests.{cases-order}
 use Rattle.std.specs.declared.result.Result.{Result}
 use Rattle.std.specs.declared.result.Result.the-variants.{Ok, Err}
+use Rattle.std.specs.declared.option.Option.the-variants.{Some}
 use Rattle.std.specs.Results.{isOk}
+use Rattle.std.specs.Vec.{made}
+use Rattle.sheet.specs.Sheets.{yard}
 use Rattle.listing.specs.Bytes.{yard-in}
 use Rattle.listing.specs.Rules.{Well-listed, Stops-at}
 use Rattle.listing.specs.Yards.{Yard, Same}
@@ -22,7 +25,7 @@ use Rattle.sheet.specs.Admitting.{Admitted, Parsed}
 use Rattle.sheet.specs.declared.sheet.Sheet.{Sheet}
 use Rattle.sheet.proofs.Agreeing.{lawful-same, no-circles-same, starts-apart-same, first-circle-same, first-shared-same}
 use Rattle.sheet.proofs.Conflicting.{pairs-same}
-use Rattle.sheet.specs.Reading.{Well-formed, Marks-left, Refused, short-marks, not-listed, circular, start-shared, crowded}
+use Rattle.sheet.specs.Reading.{Well-formed, Marks-left, fault-of, Refused, short-marks, not-listed, circular, start-shared, crowded}
 use Rattle.sheet.specs.declared.fault.SheetFault.{SheetFault}
 use Rattle.sheet.specs.declared.fault.SheetFault.the-variants.{Walk, Listed, Circle, SharedStart, TooManyConflicts}
 use Rattle.sheet.proofs.Starts.{not-shared}
@@ -88,22 +91,21 @@ refused-once b m (crowded h l n s c) (circular {t = u} k l′ d) = absurd (no-fi
 refused-once b m (crowded h l n s c) (start-shared {p = q} k l′ n′ r) = absurd (no-first-shared b q l s r)
 refused-once b m (crowded h l n s c) (crowded k l′ n′ r d) = refl
 
--- bytes are accepted where they are a sheet, and refused as they are to be
-abbrev pub Outcome : {U : Type 0} → List ℕ → ℕ → Result U SheetFault → Type 0
-Outcome b m (Ok u) = (96 ≤ m) × Well-formed b
-Outcome b m (Err f) = Refused b m f
-
--- so an answer says which of the two it is
-pub accepted : {U : Type 0} (b : List ℕ) (m : ℕ) (r : Result U SheetFault) → Outcome b m r → (isOk r ≡ true) ↔ ((96 ≤ m) × Well-formed b)
-accepted b m (Ok u) o = (λ _. o, λ _. refl)
+-- so an answer says which of the two it is, and what the sheet says
+pub accepted : (b : List ℕ) (m : ℕ) (r : Result Sheet SheetFault) → Parsed b m r → (isOk r ≡ true) ↔ ((96 ≤ m) × Well-formed b)
+accepted b m (Ok s) o = (λ _. (o .0, o .1), λ _. refl)
 accepted b m (Err f) o = (λ e. let z : _≡_ {A = ℕ} 0 1 = cc in absurd (omega arith), λ p. absurd (never-refused b m (p .0) (p .1) o))
 
-pub refused : {U : Type 0} (b : List ℕ) (m : ℕ) (r : Result U SheetFault) → Outcome b m r → (g : SheetFault) → (r ≡ Err g) ↔ Refused b m g
-refused b m (Ok u) o g = (λ e. let z : _≡_ {A = ℕ} 0 1 = cc in absurd (omega arith), λ r. absurd (never-refused b m (o .0) (o .1) r))
+pub refused : (b : List ℕ) (m : ℕ) (r : Result Sheet SheetFault) → Parsed b m r → (g : SheetFault) → (fault-of r ≡ Some g) ↔ Refused b m g
+refused b m (Ok s) o g = (λ e. let z : _≡_ {A = ℕ} 0 1 = cc in absurd (omega arith), λ r. absurd (never-refused b m (o .0) (o .1) r))
 refused b m (Err f) o g = (
   λ e. let same : f ≡ g = cc in subst (λ x. Refused b m x) same o,
-  λ s. ap Err (refused-once b m o s),
+  λ s. ap Some (refused-once b m o s),
 )
+
+pub content : (b : List ℕ) (m : ℕ) (r : Result Sheet SheetFault) → Parsed b m r → made r (λ s. Same (yard-in b) (yard s))
+content b m (Ok s) o = o .2
+content b m (Err f) o = tt
 
 -- content that is checked says of its bytes what it says of itself
 module _ (b : List ℕ) (m : ℕ) (h : 96 ≤ m) (w : Well-listed b) (l : Listing) (s : Same (yard-in b) (listed-yard l)) where

@@ -2,6 +2,8 @@
 use Prim.Native.Nat.{ℕ, _<_, _≤_}
 use mathlib.Core.Path.{_≡_}
 use mathlib.Core.List.{List}
+use Rattle.std.specs.declared.option.Option.{Option}
+use Rattle.std.specs.declared.option.Option.the-variants.{Some, None}
 use Rattle.std.specs.declared.result.Result.{Result}
 use Rattle.std.specs.declared.result.Result.the-variants.{Ok, Err}
 use Rattle.net.specs.Marks.{Cleared}
@@ -38,3 +40,8 @@ Marks-refused before after TooManyConflicts = Cleared before after
 abbrev pub Marks-left : {U : Type 0} → List ℕ → List ℕ → Result U SheetFault → Type 0
 Marks-left before after (Ok u) = Cleared before after
 Marks-left before after (Err f) = Marks-refused before after f
+
+-- the fault of a refusal
+abbrev pub fault-of : {U : Type 0} → Result U SheetFault → Option SheetFault
+fault-of (Ok u) = None
+fault-of (Err f) = Some f

@@ -23,14 +23,51 @@ pub struct MovementNet<'a> {
 }
 
 impl<'a> MovementNet<'a> {
-    // The net of a train of the sheet; of an unknown train it has no arcs.
+    // The net of a train of the listing; of an unknown train it has no arcs.
     pub fn of(listing: &'a Listing, train: usize) -> MovementNet<'a>
         ensures content { λ r. ⌜ now (r .listing) ≡ now (listing .entry) ⌝ }
         ensures train { λ r. ⌜ r .train ≡ train ⌝ }
         ensures moves { λ r. ⌜ ((a b : ℕ) → (arcs (yard (now (r .listing))) (r .train) a b ≡ true) ↔ Leads (yard (now (listing .entry))) train a b) ⌝ }
     {
-        MovementNet { listing, train }
+        view(listing, train)
     }
+}
+
+fn view<'a>(listing: &'a Listing, train: usize) -> MovementNet<'a>
+    ensures content { λ r. ⌜ now (r .listing) ≡ now (listing .entry) ⌝ }
+    ensures train { λ r. ⌜ r .train ≡ train ⌝ }
+    ensures moves { λ r. ⌜ ((a b : ℕ) → (arcs (yard (now (r .listing))) (r .train) a b ≡ true) ↔ Leads (yard (now (listing .entry))) train a b) ⌝ }
+{
+    MovementNet { listing, train }
+}
+
+// Whether a move of the train leads from the one node to the other.
+fn leads(listing: &Listing, train: usize, from: usize, to: usize) -> bool
+    ensures { λ r. ⌜ r ≡ arcs (yard (now (listing .entry))) train from to ⌝ }
+{
+    let Some(left) = listing.place(from) else {
+        return false;
+    };
+    if left.train != train {
+        return false;
+    }
+    if to < MOST_PLACES {
+        return listing.has_move(from, Destination::Place(to));
+    }
+    to - MOST_PLACES == train && listing.has_move(from, Destination::Out)
+}
+
+// The blocks of the place entered that the place left lacks.
+fn blocks_entered(listing: &Listing, from: usize, to: usize) -> i32
+    ensures { λ r. ⌜ r ≡ weighing (yard (now (listing .entry))) from to ⌝ }
+{
+    let Some(left) = listing.place(from) else {
+        return 0;
+    };
+    let Some(entered) = listing.place(to) else {
+        return 0;
+    };
+    entered.blocks.count_not_in(left.blocks) as i32
 }
 
 pub impl Net for MovementNet<'_> as MovementNetNet {
@@ -47,16 +84,7 @@ pub impl Net for MovementNet<'_> as MovementNetNet {
     }
 
     fn has_arc(&self, from: usize, to: usize) -> bool {
-        let Some(left) = self.listing.place(from) else {
-            return false;
-        };
-        if left.train != self.train {
-            return false;
-        }
-        if to < MOST_PLACES {
-            return self.listing.has_move(from, Destination::Place(to));
-        }
-        to - MOST_PLACES == self.train && self.listing.has_move(from, Destination::Out)
+        leads(self.listing, self.train, from, to)
     }
 }
 
@@ -66,12 +94,6 @@ pub impl WeightedNet for MovementNet<'_> as MovementNetWeightedNet {
     ghost limited = { λ n a b. weighs-limited (yard (pointed (n .listing))) a b };
 
     fn weight(&self, from: usize, to: usize) -> i32 {
-        let Some(left) = self.listing.place(from) else {
-            return 0;
-        };
-        let Some(entered) = self.listing.place(to) else {
-            return 0;
-        };
-        entered.blocks.count_not_in(left.blocks) as i32
+        blocks_entered(self.listing, from, to)
     }
 }

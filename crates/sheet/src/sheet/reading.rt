@@ -6,13 +6,13 @@ ghost use Prim.Native.Nat.{_≤_};
 ghost use lib.ListN.{length};
 ghost use Rattle.std.specs.Results.{isOk};
 ghost use Rattle.std.specs.Vec.{made};
-ghost use Rattle.std.specs.declared.result.Result.the-variants.{Err};
+ghost use Rattle.std.specs.declared.option.Option.the-variants.{Some};
 ghost use Rattle.net.specs.Marks.{Cleared};
 ghost use Rattle.listing.specs.Bytes.{yard-in};
 ghost use Rattle.listing.specs.Yards.{Same};
 ghost use Rattle.sheet.specs.declared.fault.SheetFault.{SheetFault as Fault};
-ghost use Rattle.sheet.specs.Admitting.{Admitted, Parsed};
-ghost use Rattle.sheet.specs.Reading.{Well-formed, Refused, Marks-left};
+ghost use Rattle.sheet.specs.Admitting.{Admitted};
+ghost use Rattle.sheet.specs.Reading.{Well-formed, Refused, Marks-left, fault-of};
 ghost use Rattle.sheet.specs.Sheets.{yard};
 use crate::check::first_circle;
 use crate::check::first_shared_start;
@@ -32,18 +32,25 @@ impl Sheet {
     // Reads bytes into the sheet; a refusal leaves it as before.
     pub fn read(&mut self, input: &[u8], marks: &mut [u8]) -> Result<(), SheetFault>
         ensures accepted { λ r. ⌜ ((isOk r ≡ true) ↔ ((96 ≤ length (now (marks .entry))) × Well-formed (now (input .entry)))) ⌝ }
-        ensures refused { λ r. ⌜ ((f : Fault) → (r ≡ Err f) ↔ Refused (now (input .entry)) (length (now (marks .entry))) f) ⌝ }
+        ensures refused { λ r. ⌜ ((f : Fault) → (fault-of r ≡ Some f) ↔ Refused (now (input .entry)) (length (now (marks .entry))) f) ⌝ }
         ensures content { λ r. ⌜ made r (λ _. Same (yard-in (now (input .entry))) (yard (now (self .exit)))) ⌝ }
         ensures kept { λ r. ⌜ (isOk r ≡ false → now (self .exit) ≡ now (self .entry)) ⌝ }
         ensures marks { λ r. ⌜ Marks-left (now (marks .entry)) (now (marks .exit)) r ⌝ }
     {
-        *self = Sheet::parse(input, marks)?;
-        Ok(())
+        match Sheet::parse(input, marks) {
+            Ok(sheet) => {
+                *self = sheet;
+                Ok(())
+            }
+            Err(fault) => Err(fault),
+        }
     }
 
     // The sheet that bytes say.
     fn parse(input: &[u8], marks: &mut [u8]) -> Result<Sheet, SheetFault>
-        ensures answer { λ r. ⌜ Parsed (now (input .entry)) (length (now (marks .entry))) r ⌝ }
+        ensures accepted { λ r. ⌜ ((isOk r ≡ true) ↔ ((96 ≤ length (now (marks .entry))) × Well-formed (now (input .entry)))) ⌝ }
+        ensures refused { λ r. ⌜ ((f : Fault) → (fault-of r ≡ Some f) ↔ Refused (now (input .entry)) (length (now (marks .entry))) f) ⌝ }
+        ensures content { λ r. ⌜ made r (λ s. Same (yard-in (now (input .entry))) (yard s)) ⌝ }
         ensures marks { λ r. ⌜ Marks-left (now (marks .entry)) (now (marks .exit)) r ⌝ }
     {
         if marks.len() < MOST_NODES {

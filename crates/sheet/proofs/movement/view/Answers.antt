@@ -2,7 +2,7 @@ use mathlib.Core.Path.{refl}
 use Rattle.listing.specs.Listings.{yard}
 use Rattle.listing.proofs.Drawn.{drawn}
 use Rattle.sheet.specs.Moving.{arcs-leads, leads-arcs}
-use Rattle.sheet.proofs.movement.MovementNet.of.Needs as need
+use Rattle.sheet.proofs.movement.view.Needs as need
 
 pub returns : need.returns
 returns c =
