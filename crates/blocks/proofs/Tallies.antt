@@ -45,7 +45,7 @@ ones-tally zero n h = let l = ones-le 0 n h in omega arith
 ones-tally (suc w) n h =
     ones-step n
     ∙ ap₂ _+_ (sym (ap (λ d. cond (eqb d 1) 1 0) (zero-bit n) ∙ digit-is (n % 2) (omega arith)))
-        (ones-tally w (n / 2) (half-lt n w h) ∙ tally-same w (has (n / 2)) (λ k. has n (suc k)) (λ k l. ap (λ d. eqb d 1) (sym (bit-half n k))))
+    (ones-tally w (n / 2) (half-lt n w h) ∙ tally-same w (has (n / 2)) (λ k. has n (suc k)) (λ k l. ap (λ d. eqb d 1) (sym (bit-half n k))))
     ∙ sym (tally-first w (has n))
 
 -- the digits of a complement
@@ -73,8 +73,8 @@ pub lacked-ones : (s o : ℕ) → s < 2 ^ 64 → o < 2 ^ 64 → ones (bitAnd s (
 lacked-ones s o hs ho =
     ones-tally 64 _ (and-lt 64 s ((2 ^ 64 - 1) - o) hs (omega arith))
     ∙ tally-same 64 (has (bitAnd s ((2 ^ 64 - 1) - o))) (λ b. has s b && not (has o b)) (λ k l.
-      ap (λ x. eqb x 1) (ap (λ x. x % 2) (and-shr s ((2 ^ 64 - 1) - o) k) ∙ and-mod (s / 2 ^ k) (((2 ^ 64 - 1) - o) / 2 ^ k) 1 ∙ ap (bitAnd (s / 2 ^ k % 2)) (other-digit 64 o k ho l))
-      ∙ both-digits (s / 2 ^ k % 2) (o / 2 ^ k % 2) (omega arith) (omega arith))
+    ap (λ x. eqb x 1) (ap (λ x. x % 2) (and-shr s ((2 ^ 64 - 1) - o) k) ∙ and-mod (s / 2 ^ k) (((2 ^ 64 - 1) - o) / 2 ^ k) 1 ∙ ap (bitAnd (s / 2 ^ k % 2)) (other-digit 64 o k ho l))
+    ∙ both-digits (s / 2 ^ k % 2) (o / 2 ^ k % 2) (omega arith) (omega arith))
 
 pub tally-none : (test : ℕ → Bool) → tally 0 test ≡ 0
 unfolding tally

@@ -27,21 +27,21 @@ arcs-leads y t a b e =
     let k = and-parts (ltb a (y .places)) (eqb (y .owner a) t) (p .0) in
     elim (cases-lt b 84) [
       | inl h ↦ record {
-          known = ltb-true _ _ (k .0);
-          own = eqb-true _ _ (k .1);
-          to = Place b;
-          move = sym (cond-true (ltb b 84) (y .move a (Place b)) (eqb b (84 + t) && y .move a Out) (lt-ltb _ _ h)) ∙ p .1;
-          arrives = refl;
-        }
+        known = ltb-true _ _ (k .0);
+        own = eqb-true _ _ (k .1);
+        to = Place b;
+        move = sym (cond-true (ltb b 84) (y .move a (Place b)) (eqb b (84 + t) && y .move a Out) (lt-ltb _ _ h)) ∙ p .1;
+        arrives = refl;
+      }
       | inr h ↦
           (let q = and-parts (eqb b (84 + t)) (y .move a Out) (sym (cond-false (ltb b 84) (y .move a (Place b)) (eqb b (84 + t) && y .move a Out) (le-ltb _ _ h)) ∙ p .1) in
-           record {
-             known = ltb-true _ _ (k .0);
-             own = eqb-true _ _ (k .1);
-             to = Out;
-             move = q .1;
-             arrives = sym (eqb-true _ _ (q .0));
-           })
+          record {
+            known = ltb-true _ _ (k .0);
+            own = eqb-true _ _ (k .1);
+            to = Out;
+            move = q .1;
+            arrives = sym (eqb-true _ _ (q .0));
+          })
     ]
 
 module _ (y : Yard) (shaped : Shaped y) where

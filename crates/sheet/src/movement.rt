@@ -11,9 +11,9 @@ ghost use Rattle.sheet.specs.Moving.{arcs-inside, weighs-limited};
 use listing::content::Listing;
 use listing::content::MOST_PLACES;
 use listing::place::Destination;
+use net::nets::MOST_NODES;
 use net::nets::Net;
 use net::nets::WeightedNet;
-use net::nets::MOST_NODES;
 
 // The moves of a train as arcs: arrival at place p is node p, and train t out is node 84 + t.
 #[derive(Clone, Copy)]

@@ -71,7 +71,12 @@ impl Sheet {
     }
 
     // The greatest number of blocks entered on a way of the train from a node of its movement net.
-    pub fn longest_way(&self, marks: &mut [u8], train: usize, from: usize) -> Result<i32, TrainFault>
+    pub fn longest_way(
+        &self,
+        marks: &mut [u8],
+        train: usize,
+        from: usize,
+    ) -> Result<i32, TrainFault>
         ensures { λ r. ⌜ Longest (yard (now (self .entry))) train from (now (marks .entry)) (now (marks .exit)) r ⌝ }
     {
         if marks.len() < MOST_NODES {

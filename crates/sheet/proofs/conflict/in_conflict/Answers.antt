@@ -10,18 +10,15 @@ returns-then-a-c c =
     let e = c .shares .ensures .value ∙ sym (conflict-others (yard (c .args .listing .now)) (c .args .first) (c .args .second) _ _ _ _ (c .in-Some .ensures tt) (c .in-Some-place .ensures tt) (c .if-a-c .taken)) in
     record { value = e; law = tells (yard (c .args .listing .now)) (c .args .first) (c .args .second) _ e }
 
-
 pub returns-else-a-c : need.returns-else-a-c
 returns-else-a-c c =
     let e = ap not (eq-eqb _ _ (c .if-a-c .left)) ∙ sym (conflict-own (yard (c .args .listing .now)) (c .args .first) (c .args .second) _ _ _ _ (c .in-Some .ensures tt) (c .in-Some-place .ensures tt) (c .if-a-c .left)) in
     record { value = e; law = tells (yard (c .args .listing .now)) (c .args .first) (c .args .second) _ e }
 
-
 pub returns-in-rest : need.returns-in-rest
 returns-in-rest c =
     let e = sym (conflict-first-missing (yard (c .args .listing .now)) (c .args .first) (c .args .second) (c .in-rest .ensures tt)) in
     record { value = e; law = tells (yard (c .args .listing .now)) (c .args .first) (c .args .second) _ e }
-
 
 pub returns-in-rest-place : need.returns-in-rest-place
 returns-in-rest-place c =

@@ -31,8 +31,7 @@ returns-then-conflict-count-gt-MOST-CONFLICTS c =
 pub ghost-result : need.ghost-result
 ghost-result c =
     let l = c .args .listing in
-    let searched = c .in-Continue-train .ensures tt in
-    (
+    let searched = c .in-Continue-train .ensures tt in (
       ∣ lawful l (cases-at-none (No-circles (yard l)) (First-circle (yard l)) (c .in-rest .is) (searched .2)) (c .in-rest-first-shared-start .ensures tt)
           (omega (arith, c .conflict-count .ensures)) ∣₁,
       tt,

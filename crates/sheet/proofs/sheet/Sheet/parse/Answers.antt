@@ -22,7 +22,7 @@ returns-in-Break-listing c =
     let e = p .1 ∙ ap Err (p .2) in
     let r = c .from-residual .result in
     let o = subst (λ x. Parsed b m x) (sym e)
-        (not-listed (c .if-marks-lt-MOST-NODES .left) (c .in-Break-listing .ensures tt .refused (c .in-Break-listing .field-0 .0) .0 refl)) in
+    (not-listed (c .if-marks-lt-MOST-NODES .left) (c .in-Break-listing .ensures tt .refused (c .in-Break-listing .field-0 .0) .0 refl)) in
     record {
       accepted = accepted b m r o;
       refused = refused b m r o;
