@@ -5,10 +5,10 @@ use sheet::sheet::Sheet;
 use std::alloc::AllocError;
 use std::alloc::Global;
 
-pub const OUT: u8 = 255;
+pub(crate) const OUT: u8 = 255;
 
 #[derive(Drop)]
-pub struct Draft {
+pub(crate) struct Draft {
     heap: Global,
     trains: u8,
     owners: Vec<u8>,
@@ -18,7 +18,7 @@ pub struct Draft {
 }
 
 impl Draft {
-    pub fn new(heap: Global, trains: u8) -> Draft {
+    pub(crate) fn new(heap: Global, trains: u8) -> Draft {
         Draft {
             heap,
             trains,
@@ -29,7 +29,7 @@ impl Draft {
         }
     }
 
-    pub fn place(&mut self, train: u8, blocks: u64) -> Result<(), AllocError> {
+    pub(crate) fn place(&mut self, train: u8, blocks: u64) -> Result<(), AllocError> {
         self.owners.push(train)?;
         for byte in blocks.to_be_bytes() {
             self.sets.push(byte)?;
@@ -37,13 +37,13 @@ impl Draft {
         Ok(())
     }
 
-    pub fn arc(&mut self, from: u8, to: u8) -> Result<(), AllocError> {
+    pub(crate) fn arc(&mut self, from: u8, to: u8) -> Result<(), AllocError> {
         self.from.push(from)?;
         self.to.push(to)?;
         Ok(())
     }
 
-    pub fn bytes(&self) -> Result<Vec<u8>, AllocError> {
+    pub(crate) fn bytes(&self) -> Result<Vec<u8>, AllocError> {
         let mut bytes = Vec::new(self.heap);
         bytes.push(self.trains)?;
         bytes.push((self.owners.len() & 0xff) as u8)?;
@@ -57,7 +57,7 @@ impl Draft {
 }
 
 // Reads the bytes into a new sheet.
-pub fn read(bytes: &[u8]) -> Result<Sheet, SheetFault> {
+pub(crate) fn read(bytes: &[u8]) -> Result<Sheet, SheetFault> {
     let mut sheet = Sheet::new();
     let mut marks = [0; 96];
     match sheet.read(bytes, &mut marks) {
@@ -67,7 +67,7 @@ pub fn read(bytes: &[u8]) -> Result<Sheet, SheetFault> {
 }
 
 // The number and place of the refusal of the bytes, or none where they are a sheet.
-pub fn refused(bytes: &[u8]) -> Option<(u8, usize)> {
+pub(crate) fn refused(bytes: &[u8]) -> Option<(u8, usize)> {
     match read(bytes) {
         Ok(_) => None,
         Err(fault) => {

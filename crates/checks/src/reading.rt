@@ -17,7 +17,7 @@ use std::alloc::Global;
 use std::test::*;
 
 // Two trains that face each other on two blocks: 33 bytes and 8 for the moves.
-pub fn facing(heap: Global) -> Result<Draft, AllocError> {
+pub(crate) fn facing(heap: Global) -> Result<Draft, AllocError> {
     let mut draft = Draft::new(heap, 2);
     draft.place(0, 1)?;
     draft.place(0, 2)?;

@@ -19,12 +19,16 @@ yard l = tabled (l .«train_count») (l .«place_count») (l .places) (l .«move
 abbrev pub Read : Yard → ℕ → Option Place → Type 0
 Read y p r = Cases r (y .places ≤ p) (λ x. (p < y .places) × (x .train ≡ y .owner p) × (x .blocks .bits ≡ y .blocks p))
 
--- one train in block 0 with one move, out
-abbrev pub fresh : Yard
-fresh = record {
+-- one train in these blocks with one move, out
+abbrev pub lone : ℕ → Yard
+lone bits = record {
   trains = 1;
   places = 1;
   owner = λ p. 0;
-  blocks = λ p. 1;
+  blocks = λ p. bits;
   move = λ p d. eqb 0 p && same-destination destination.Out d;
 }
+
+-- the smallest listing: that train in block 0
+abbrev pub fresh : Yard
+fresh = lone 1

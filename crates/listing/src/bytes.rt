@@ -1,8 +1,11 @@
 // The parts of a sheet, read where they lie in its bytes.
 ghost use mathlib.Core.Path.{_≡_};
-ghost use Prim.Native.Nat.{ℕ, _+_, _*_, _<_, _≤_};
+ghost use Prim.Native.Nat.{_+_, _<_, _≤_};
 ghost use lib.ListN.{length};
 ghost use Rattle.listing.specs.Bytes.{yard-in, listed, from-of, to-of, set-at, count-at, from-at, to-at, end-at};
+
+// The number that a move has for its destination where it leads out.
+pub(crate) const OUT: usize = 255;
 
 pub(crate) fn trains(bytes: &[u8]) -> usize
     requires { ⌜ 1 ≤ length (now bytes) ⌝ }
@@ -70,32 +73,32 @@ pub(crate) fn moves(bytes: &[u8]) -> usize
     bytes[count_offset(bytes)] as usize
 }
 
-pub(crate) fn from_offset(bytes: &[u8], passage: usize) -> usize
-    requires { ⌜ 2 ≤ length (now bytes) ⌝ ∗ ⌜ passage < 256 ⌝ }
-    ensures { λ r. ⌜ r ≡ from-at (now (bytes .entry)) passage ⌝ }
+pub(crate) fn from_offset(bytes: &[u8], index: usize) -> usize
+    requires { ⌜ 2 ≤ length (now bytes) ⌝ ∗ ⌜ index < 256 ⌝ }
+    ensures { λ r. ⌜ r ≡ from-at (now (bytes .entry)) index ⌝ }
 {
-    count_offset(bytes) + 1 + passage
+    count_offset(bytes) + 1 + index
 }
 
-pub(crate) fn to_offset(bytes: &[u8], passage: usize) -> usize
-    requires { ⌜ count-at (now bytes) + 1 ≤ length (now bytes) ⌝ ∗ ⌜ passage < 256 ⌝ }
-    ensures { λ r. ⌜ r ≡ to-at (now (bytes .entry)) passage ⌝ }
+pub(crate) fn to_offset(bytes: &[u8], index: usize) -> usize
+    requires { ⌜ count-at (now bytes) + 1 ≤ length (now bytes) ⌝ ∗ ⌜ index < 256 ⌝ }
+    ensures { λ r. ⌜ r ≡ to-at (now (bytes .entry)) index ⌝ }
 {
-    count_offset(bytes) + 1 + moves(bytes) + passage
+    count_offset(bytes) + 1 + moves(bytes) + index
 }
 
-pub(crate) fn from(bytes: &[u8], passage: usize) -> usize
+pub(crate) fn from(bytes: &[u8], index: usize) -> usize
     requires there { ⌜ end-at (now bytes) ≤ length (now bytes) ⌝ }
-    requires sized { ⌜ passage < listed (now bytes) ⌝ }
-    ensures { λ r. ⌜ r ≡ from-of (now (bytes .entry)) passage ⌝ }
+    requires sized { ⌜ index < listed (now bytes) ⌝ }
+    ensures { λ r. ⌜ r ≡ from-of (now (bytes .entry)) index ⌝ }
 {
-    bytes[from_offset(bytes, passage)] as usize
+    bytes[from_offset(bytes, index)] as usize
 }
 
-pub(crate) fn to(bytes: &[u8], passage: usize) -> usize
+pub(crate) fn to(bytes: &[u8], index: usize) -> usize
     requires there { ⌜ end-at (now bytes) ≤ length (now bytes) ⌝ }
-    requires sized { ⌜ passage < listed (now bytes) ⌝ }
-    ensures { λ r. ⌜ r ≡ to-of (now (bytes .entry)) passage ⌝ }
+    requires sized { ⌜ index < listed (now bytes) ⌝ }
+    ensures { λ r. ⌜ r ≡ to-of (now (bytes .entry)) index ⌝ }
 {
-    bytes[to_offset(bytes, passage)] as usize
+    bytes[to_offset(bytes, index)] as usize
 }

@@ -1,7 +1,7 @@
 // Whether bytes keep the rules of a listing, checked in the order of the rules.
 ghost use mathlib.Core.Path.{_≡_};
 ghost use mathlib.Core.Logic.{_≢_};
-ghost use Prim.Native.Nat.{ℕ, _+_, _*_, _<_, _≤_};
+ghost use Prim.Native.Nat.{_+_, _<_, _≤_};
 ghost use lib.ListN.{length};
 ghost use denote.Ref.{now as pointed};
 ghost use Rattle.std.specs.Results.{Cases};
@@ -176,7 +176,7 @@ impl Scan for Moves<'_> as MovesScan {
             return Err(ListingFault::NoSuchOrigin(bytes::from_offset(input, at)));
         }
         if to >= places {
-            return if to == 255 {
+            return if to == bytes::OUT {
                 Ok(())
             } else {
                 Err(ListingFault::NoSuchDestination(bytes::to_offset(input, at)))

@@ -36,8 +36,8 @@ pub enum ListingFault {
 pub impl From<BytesFault> for ListingFault as ListingFromBytes {
     ghost converts = { λ e r. r ≡ faults.Bytes e };
 
-    fn from(fault: BytesFault) -> ListingFault {
-        ListingFault::Bytes(fault)
+    fn from(cause: BytesFault) -> ListingFault {
+        ListingFault::Bytes(cause)
     }
 }
 
@@ -67,9 +67,9 @@ impl ListingFault {
             ListingFault::UnknownTrain(offset) => (3, offset),
             ListingFault::TrainWithoutPlace => (3, 0),
             ListingFault::EmptySet(offset) => (4, offset),
-            ListingFault::NoSuchOrigin(offset) => (5, offset),
-            ListingFault::NoSuchDestination(offset) => (5, offset),
-            ListingFault::OtherTrain(offset) => (5, offset),
+            ListingFault::NoSuchOrigin(offset)
+            | ListingFault::NoSuchDestination(offset)
+            | ListingFault::OtherTrain(offset) => (5, offset),
         };
         Refusal {
             number,

@@ -1,5 +1,5 @@
 // A rule that is checked at each number below a count.
-ghost use Prim.Native.Nat.{ℕ, _<_};
+ghost use Prim.Native.Nat.{ℕ};
 ghost use Rattle.std.specs.Results.{Cases};
 ghost use Rattle.listing.specs.declared.fault.ListingFault.{ListingFault as Fault};
 ghost use Rattle.listing.specs.Scans.{First, Each};

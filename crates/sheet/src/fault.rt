@@ -29,16 +29,16 @@ pub enum SheetFault {
 pub impl From<WalkFault> for SheetFault as SheetFromWalk {
     ghost converts = { λ e r. r ≡ sheet-faults.Walk e };
 
-    fn from(fault: WalkFault) -> SheetFault {
-        SheetFault::Walk(fault)
+    fn from(cause: WalkFault) -> SheetFault {
+        SheetFault::Walk(cause)
     }
 }
 
 pub impl From<ListingFault> for SheetFault as SheetFromListing {
     ghost converts = { λ e r. r ≡ sheet-faults.Listed e };
 
-    fn from(fault: ListingFault) -> SheetFault {
-        SheetFault::Listed(fault)
+    fn from(cause: ListingFault) -> SheetFault {
+        SheetFault::Listed(cause)
     }
 }
 
@@ -71,8 +71,8 @@ pub enum TrainFault {
 pub impl From<WalkFault> for TrainFault as TrainFromWalk {
     ghost converts = { λ e r. r ≡ train-faults.Walk e };
 
-    fn from(fault: WalkFault) -> TrainFault {
-        TrainFault::Walk(fault)
+    fn from(cause: WalkFault) -> TrainFault {
+        TrainFault::Walk(cause)
     }
 }
 

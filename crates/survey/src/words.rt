@@ -6,7 +6,7 @@ use sheet::fault::SheetFault;
 use std::error::AnyError;
 
 // One line that says why a sheet was refused.
-pub fn explain(rt: &LibcRuntime, fault: &SheetFault) -> Result<(), AnyError> {
+pub(crate) fn explain(rt: &LibcRuntime, fault: &SheetFault) -> Result<(), AnyError> {
     match *fault {
         SheetFault::Walk(WalkFault::ShortMarks) => println!(
             rt,

@@ -1,33 +1,42 @@
 // How the content is read.
 ghost use mathlib.Core.Path.{_≡_};
+ghost use mathlib.Core.Logic.{_≢_};
 ghost use Prim.Native.Nat.{_≤_, _<_};
 ghost use Rattle.std.specs.Options.{Cases as BySome};
 ghost use Rattle.listing.specs.Yards.{start as lowest-place, Same};
-ghost use Rattle.listing.specs.Listings.{yard, Read, fresh};
+ghost use Rattle.listing.specs.Listings.{yard, Read, lone, fresh};
 use crate::content::Listing;
 use crate::place::Destination;
 use crate::place::Move;
 use crate::place::Place;
 use blocks::Blocks;
 
+// One train in these blocks with one move, out.
+fn lone_train(bits: u64) -> Listing
+    requires { ⌜ bits ≢ 0 ⌝ }
+    ensures { λ r. ⌜ Same (lone bits) (yard r) ⌝ }
+{
+    Listing {
+        train_count: 1,
+        place_count: 1,
+        places: [Place {
+            train: 0,
+            blocks: Blocks::from_bits(bits),
+        }; 84],
+        move_count: 1,
+        moves: [Move {
+            from: 0,
+            to: Destination::Out,
+        }; 200],
+    }
+}
+
 impl Listing {
     // One train in block 0 with one move, out.
     pub fn smallest() -> Listing
         ensures { λ r. ⌜ Same fresh (yard r) ⌝ }
     {
-        Listing {
-            train_count: 1,
-            place_count: 1,
-            places: [Place {
-                train: 0,
-                blocks: Blocks::from_bits(1),
-            }; 84],
-            move_count: 1,
-            moves: [Move {
-                from: 0,
-                to: Destination::Out,
-            }; 200],
-        }
+        lone_train(1)
     }
 
     pub fn train_count(&self) -> usize

@@ -2,7 +2,7 @@
 ghost use mathlib.Core.Path.{_≡_};
 ghost use mathlib.Core.Bool.{true};
 ghost use mathlib.Core.Logic.{_↔_};
-ghost use Prim.Native.Nat.{ℕ, _+_, _<_, _≤_};
+ghost use Prim.Native.Nat.{_<_, _≤_};
 ghost use lib.ListN.{length, getD};
 ghost use Rattle.std.specs.Results.{isOk};
 ghost use Rattle.std.specs.Vec.{made};
@@ -52,15 +52,15 @@ fn places_in(input: &[u8]) -> [Place; 84]
     places
 }
 
-fn move_at(input: &[u8], passage: usize) -> Move
-    requires sized { ⌜ passage < listed (now input) ⌝ }
+fn move_at(input: &[u8], index: usize) -> Move
+    requires sized { ⌜ index < listed (now input) ⌝ }
     requires there { ⌜ end-at (now input) ≤ length (now input) ⌝ }
-    ensures { λ r. ⌜ Move-in (now (input .entry)) passage r ⌝ }
+    ensures { λ r. ⌜ Move-in (now (input .entry)) index r ⌝ }
 {
-    let to = bytes::to(input, passage);
+    let to = bytes::to(input, index);
     Move {
-        from: bytes::from(input, passage),
-        to: if to == 255 {
+        from: bytes::from(input, index),
+        to: if to == bytes::OUT {
             Destination::Out
         } else {
             Destination::Place(to)

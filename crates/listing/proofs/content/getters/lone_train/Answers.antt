@@ -1,4 +1,4 @@
-use mathlib.Core.Path.{_≡_, refl, subst}
+use mathlib.Core.Path.{_≡_, refl, sym, _∙_, subst}
 use mathlib.Core.Bool.{true, false}
 use mathlib.Core.Logic.{_≢_}
 use Prim.Native.Nat.{ℕ, _≤_, _<_}
@@ -8,7 +8,7 @@ use lib.Dec.{eqb}
 use Rattle.listing.specs.Moves.{same-destination}
 use Rattle.listing.specs.declared.place.Destination.the-variants.{Place, Out}
 use Rattle.listing.specs.Scans.{Each}
-use Rattle.listing.proofs.content.Listing.smallest.Needs as need
+use Rattle.listing.proofs.content.getters.lone_train.Needs as need
 
 -- below one is only zero
 only : (P : ℕ → Type 0) → P 0 → Each 1 P
@@ -27,7 +27,7 @@ ghost-result c = (
           places-ranged = (omega arith, omega arith);
           owners-known = only _ (omega arith);
           trains-placed = only _ (omega arith);
-          sets-filled = only _ (λ e. omega (arith, c .from-bits .ensures, e));
+          sets-filled = only _ (λ e. c .pre (sym (c .from-bits .ensures) ∙ e));
           moves-start = λ p d e. let z = eqb-true 0 p (and-parts (eqb 0 p) (same-destination Out d) e .0) in omega arith;
           moves-stay = λ p q e. absurd (both-ways false refl (and-parts (eqb 0 p) (same-destination Out (Place q)) e .1));
         } ∣₁,
