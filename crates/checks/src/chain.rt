@@ -7,7 +7,7 @@ use net::nets::WeightedNet;
 
 // Arcs lead from each node to the next, weight 7, and with `back` from node 2 to node 1, weight -3.
 #[derive(Drop)]
-pub struct Chain {
+pub(crate) struct Chain {
     nodes: usize,
     back: bool,
     ghost sized: { (1 ≤ nodes) × (nodes ≤ 96) },
@@ -15,14 +15,14 @@ pub struct Chain {
 
 impl Chain {
     // Five nodes in a row.
-    pub fn of_five(back: bool) -> Chain
+    pub(crate) fn of_five(back: bool) -> Chain
         ensures { λ r. ⌜ (r .nodes ≡ 5) × (r .back ≡ back) ⌝ }
     {
         Chain { nodes: 5, back }
     }
 }
 
-pub impl Net for Chain as ChainNet {
+pub(crate) impl Net for Chain as ChainNet {
     ghost nodes = { λ n. n .nodes };
 
     ghost arc = { λ n. follows (n .nodes) (n .back) };
@@ -43,7 +43,7 @@ pub impl Net for Chain as ChainNet {
     }
 }
 
-pub impl WeightedNet for Chain as ChainWeightedNet {
+pub(crate) impl WeightedNet for Chain as ChainWeightedNet {
     ghost weighs = { λ n. heft };
 
     ghost limited = { λ n. heft-limited };

@@ -1,5 +1,4 @@
-// Bytes of sheets, put together part by part.
-use net::fault::Refusal;
+// Bytes of sheets, put together from short lists.
 use sheet::fault::SheetFault;
 use sheet::sheet::Sheet;
 use std::alloc::AllocError;
@@ -7,54 +6,36 @@ use std::alloc::Global;
 
 pub(crate) const OUT: u8 = 255;
 
-#[derive(Drop)]
-pub(crate) struct Draft {
+// The train and the blocks 0 to 7 of each place, and the moves.
+pub(crate) fn bytes_of(
     heap: Global,
     trains: u8,
-    owners: Vec<u8>,
-    sets: Vec<u8>,
-    from: Vec<u8>,
-    to: Vec<u8>,
+    places: &[(u8, u8)],
+    moves: &[(u8, u8)],
+) -> Result<Vec<u8>, AllocError> {
+    let mut bytes = Vec::new(heap);
+    bytes.push(trains)?;
+    bytes.push((places.len() & 0xff) as u8)?;
+    for (train, _) in places {
+        bytes.push(*train)?;
+    }
+    for (_, blocks) in places {
+        bytes.extend_from_slice(&[0, 0, 0, 0, 0, 0, 0, *blocks])?;
+    }
+    bytes.push((moves.len() & 0xff) as u8)?;
+    for (from, _) in moves {
+        bytes.push(*from)?;
+    }
+    for (_, to) in moves {
+        bytes.push(*to)?;
+    }
+    Ok(bytes)
 }
 
-impl Draft {
-    pub(crate) fn new(heap: Global, trains: u8) -> Draft {
-        Draft {
-            heap,
-            trains,
-            owners: Vec::new(heap),
-            sets: Vec::new(heap),
-            from: Vec::new(heap),
-            to: Vec::new(heap),
-        }
-    }
+// Two trains that face each other on two blocks.
+pub(crate) const FACING: [(u8, u8); 4] = [(0, 1), (0, 2), (1, 2), (1, 1)];
 
-    pub(crate) fn place(&mut self, train: u8, blocks: u64) -> Result<(), AllocError> {
-        self.owners.push(train)?;
-        for byte in blocks.to_be_bytes() {
-            self.sets.push(byte)?;
-        }
-        Ok(())
-    }
-
-    pub(crate) fn arc(&mut self, from: u8, to: u8) -> Result<(), AllocError> {
-        self.from.push(from)?;
-        self.to.push(to)?;
-        Ok(())
-    }
-
-    pub(crate) fn bytes(&self) -> Result<Vec<u8>, AllocError> {
-        let mut bytes = Vec::new(self.heap);
-        bytes.push(self.trains)?;
-        bytes.push((self.owners.len() & 0xff) as u8)?;
-        bytes.extend_from_slice(&self.owners)?;
-        bytes.extend_from_slice(&self.sets)?;
-        bytes.push((self.from.len() & 0xff) as u8)?;
-        bytes.extend_from_slice(&self.from)?;
-        bytes.extend_from_slice(&self.to)?;
-        Ok(bytes)
-    }
-}
+pub(crate) const CROSSING: [(u8, u8); 4] = [(0, 1), (1, OUT), (2, 3), (3, OUT)];
 
 // Reads the bytes into a new sheet.
 pub(crate) fn read(bytes: &[u8]) -> Result<Sheet, SheetFault> {
@@ -66,13 +47,30 @@ pub(crate) fn read(bytes: &[u8]) -> Result<Sheet, SheetFault> {
     }
 }
 
-// The number and place of the refusal of the bytes, or none where they are a sheet.
-pub(crate) fn refused(bytes: &[u8]) -> Option<(u8, usize)> {
+// Whether the bytes are refused with this number at this place.
+pub(crate) fn refused(bytes: &[u8], number: u8, place: usize) -> bool {
     match read(bytes) {
-        Ok(_) => None,
+        Ok(_) => false,
         Err(fault) => {
             let refusal = fault.refusal();
-            Some((refusal.number, refusal.place))
+            refusal.number == number && refusal.place == place
         }
     }
+}
+
+pub(crate) fn accepted(bytes: &[u8]) -> bool {
+    read(bytes).is_ok()
+}
+
+// The same of listed places and moves.
+pub(crate) fn refuses(
+    heap: Global,
+    trains: u8,
+    places: &[(u8, u8)],
+    moves: &[(u8, u8)],
+    number: u8,
+    place: usize,
+) -> Result<bool, AllocError> {
+    let bytes = bytes_of(heap, trains, places, moves)?;
+    Ok(refused(&bytes, number, place))
 }

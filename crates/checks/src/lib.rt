@@ -1,5 +1,5 @@
 // Tests of nets, sets of blocks, reading and sheets on small examples.
-pub mod chain;
+mod chain;
 #[cfg(test)]
 mod draft;
 #[cfg(test)]
