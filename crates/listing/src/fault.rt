@@ -42,7 +42,7 @@ pub impl From<BytesFault> for ListingFault as ListingFromBytes {
 }
 
 impl BytesFault {
-    pub fn refusal(&self) -> Refusal
+    pub(crate) fn refusal(&self) -> Refusal
         ensures { λ r. ⌜ r ≡ bytes-told (now (self .entry)) ⌝ }
     {
         let (number, place) = match *self {

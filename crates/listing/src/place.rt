@@ -2,12 +2,9 @@
 ghost use mathlib.Core.Path.{_≡_};
 ghost use Rattle.listing.specs.Moves.{leads as leading, same-destination};
 use blocks::Blocks;
-use blocks::BlocksDebug;
-use blocks::BlocksEq;
-use blocks::BlocksPartialEq;
 
 // A set of blocks that one train holds together.
-#[derive(Clone, Copy, Debug, PartialEq, Eq)]
+#[derive(Clone, Copy)]
 pub struct Place {
     pub train: usize,
     pub blocks: Blocks,
@@ -20,14 +17,14 @@ pub enum Destination {
     Out,
 }
 
-#[derive(Clone, Copy, Debug, PartialEq, Eq)]
+#[derive(Clone, Copy)]
 pub struct Move {
     pub from: usize,
     pub to: Destination,
 }
 
 impl Destination {
-    pub fn is(self, other: Destination) -> bool
+    pub(crate) fn is(self, other: Destination) -> bool
         ensures { λ r. ⌜ r ≡ same-destination self other ⌝ }
     {
         match (self, other) {
@@ -40,7 +37,7 @@ impl Destination {
 
 impl Move {
     // Whether it leads from the one to the other.
-    pub fn leads(self, from: usize, to: Destination) -> bool
+    pub(crate) fn leads(self, from: usize, to: Destination) -> bool
         ensures { λ r. ⌜ r ≡ leading self from to ⌝ }
     {
         self.from == from && self.to.is(to)
