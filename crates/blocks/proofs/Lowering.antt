@@ -1,12 +1,12 @@
 -- The lowest set digit of a number is where its trailing zeros end.
 use mathlib.Core.Path.{_≡_, refl, sym, ap, subst, _∙_}
-use Prim.Native.Nat.{ℕ, zero, suc, _+_, _/_, _%_, _^_, _<_, _≤_, zero-le}
-use native.Mathlib.Nat.{pow-suc, div-one}
+use Prim.Native.Nat.{ℕ, zero, suc, _/_, _%_, _^_, _<_}
+use native.Mathlib.Nat.{div-one}
 use native.Mathlib.Numerals.{one-add}
 use native.Mathlib.Omega.{arith}
 use lib.Pow.{shr-shr, shr-lt}
 use lib.Count.{trailingZeros, under}
-use Rattle.blocks.specs.Members.{has, Lowest}
+use Rattle.blocks.specs.Members.{Lowest}
 use Rattle.blocks.proofs.Digits.{Has, has-on, has-is}
 
 -- digit k + 1 of a number is digit k of its half

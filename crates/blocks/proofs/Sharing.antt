@@ -1,17 +1,17 @@
 -- Two sets share a block exactly if their meet is not zero.
-use mathlib.Core.Path.{_≡_, refl, sym, ap, subst, _∙_}
-use mathlib.Core.Bool.{Bool, true, false, not}
-use mathlib.Core.Logic.{_↔_, inl, inr}
-use Prim.Native.Nat.{ℕ, zero, suc, _+_, _^_, _<_}
+use mathlib.Core.Path.{_≡_, ap, subst}
+use mathlib.Core.Bool.{true, not}
+use mathlib.Core.Logic.{inl, inr}
+use Prim.Native.Nat.{ℕ, zero, suc, _^_, _<_}
 use native.Mathlib.Nat.{pow-suc}
 use native.Mathlib.Omega.{arith}
-use lib.Bits.{bitAnd, and-comm}
+use lib.Bits.{bitAnd}
 use lib.Count.{trailingZeros}
-use lib.Dec.{T, eqb}
-use Rattle.std.proofs.shelf.Tests.{cases-eq, eq-eqb, ne-eqb, not-true, eqb-false, both-ways}
+use lib.Dec.{T}
+use Rattle.std.proofs.shelf.Tests.{cases-eq, ne-eqb, not-true, eqb-false}
 use Rattle.blocks.specs.Members.{has, Empty, Common, shared}
-use Rattle.blocks.proofs.Digits.{has-on, has-is, has-none, has-and, and-has}
-use Rattle.blocks.proofs.Lowering.{Found, found}
+use Rattle.blocks.proofs.Digits.{has-on, has-none, has-and, and-has}
+use Rattle.blocks.proofs.Lowering.{found}
 
 below-power : (n : ℕ) → n < 2 ^ n
 below-power zero = omega arith
@@ -40,7 +40,3 @@ pub common-shared : (s t : ℕ) → Common s t → shared s t ≡ true
 unfolding shared
 common-shared s t c =
     ap not (ne-eqb (bitAnd s t) 0 (λ e. zero-empty (bitAnd s t) e (c .block) (and-has s t (c .block) (c .left) (c .right))))
-
-pub shared-comm : (s t : ℕ) → shared s t ≡ shared t s
-unfolding shared
-shared-comm s t = ap (λ n. not (eqb n 0)) (and-comm s t)

@@ -31,7 +31,7 @@ fn marks_and_sheet(rt: LibcRuntime) -> Result<(), Fail> {
     let mut marks = [7; 97];
     match sheet.read(&bytes, &mut marks[0..95]) {
         Ok(()) => return Err(Fail::new("95 marks are too few")),
-        Err(fault) => check_eq(fault.refusal().number, 10)?,
+        Err(fault) => check(fault.refusal().number == 10 && fault.refusal().place == 0)?,
     }
     check(marks[0] == 7)?;
     check(sheet.read(&bytes, &mut marks).is_ok())?;

@@ -43,9 +43,18 @@ fn longest_ways(rt: LibcRuntime) -> Result<(), Fail> {
     check_eq(sheet.longest_way(&mut marks, 0, 0), Ok(3))?;
     check_eq(marks[0], 0)?;
     check_eq(sheet.longest_way(&mut marks, 0, 84), Ok(0))?;
-    check_eq(sheet.longest_way(&mut marks, 0, 96), Err(TrainFault::Walk(WalkFault::NoSuchNode)))?;
-    check_eq(sheet.longest_way(&mut marks, 1, 96), Err(TrainFault::UnknownTrain(1)))?;
-    check_eq(sheet.longest_way(&mut marks[0..95], 1, 96), Err(TrainFault::Walk(WalkFault::ShortMarks)))
+    check_eq(
+        sheet.longest_way(&mut marks, 0, 96),
+        Err(TrainFault::Walk(WalkFault::NoSuchNode)),
+    )?;
+    check_eq(
+        sheet.longest_way(&mut marks, 1, 96),
+        Err(TrainFault::UnknownTrain(1)),
+    )?;
+    check_eq(
+        sheet.longest_way(&mut marks[0..95], 1, 96),
+        Err(TrainFault::Walk(WalkFault::ShortMarks)),
+    )
 }
 
 #[test]

@@ -1,11 +1,11 @@
 -- What says the same keeps the same rules.
-use Prim.Native.Nat.{ℕ, _≤_, _<_}
-use mathlib.Core.Path.{_≡_, refl, sym, _∙_, ap}
+use Prim.Native.Nat.{ℕ, _<_}
+use mathlib.Core.Path.{_≡_, sym, _∙_, ap}
 use native.Mathlib.Omega.{arith}
 use lib.Dec.{eqb}
 use Rattle.listing.specs.declared.place.Destination.the-variants.{Place}
 use Rattle.listing.specs.Yards.{Yard, Same, start}
-use Rattle.listing.specs.Scans.{Each, lowest}
+use Rattle.listing.specs.Scans.{lowest}
 use Rattle.listing.specs.Shape.{Shaped, Placed}
 use Rattle.listing.proofs.Scanned.{lowest-same}
 

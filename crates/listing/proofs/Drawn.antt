@@ -1,6 +1,4 @@
 -- The fact that a listing holds says all its rules: each of them is a proposition.
-use Prim.Native.Nat.{ℕ, _≤_, _<_}
-use mathlib.Core.Path.{_≡_}
 use mathlib.Core.HLevel.{⊥-prop}
 use mathlib.Core.Logic.{∥∥₁-elim}
 use native.Mathlib.Bridge.{le-prop}

@@ -1,21 +1,19 @@
 -- Bytes either are well listed or stop at one fault.
-use Prim.Native.Nat.{ℕ, _+_, _≤_, _<_}
+use Prim.Native.Nat.{ℕ, _≤_, _<_}
 use mathlib.Core.Path.{_≡_, refl, sym, _∙_, ap, subst}
 use mathlib.Core.Bool.{true}
 use mathlib.Core.List.{List}
-use mathlib.Core.Logic.{_⊎_, inl, inr, _↔_, _≢_}
+use mathlib.Core.Logic.{_⊎_, inl, inr, _↔_}
 use native.Mathlib.Omega.{arith}
-use lib.ListN.{length}
 use Rattle.std.specs.declared.result.Result.{Result}
 use Rattle.std.specs.declared.result.Result.the-variants.{Ok, Err}
 use Rattle.std.specs.Results.{isOk}
 use Rattle.std.proofs.shelf.Tests.{cases-lt, cases-eq}
-use Rattle.listing.specs.declared.fault.BytesFault.the-variants.{Ended, LeftOver}
 use Rattle.listing.specs.declared.fault.ListingFault.{ListingFault}
-use Rattle.listing.specs.declared.fault.ListingFault.the-variants.{Bytes, Size, UnknownTrain, TrainWithoutPlace, EmptySet, NoSuchOrigin, NoSuchDestination, OtherTrain}
+use Rattle.listing.specs.declared.fault.ListingFault.the-variants.{UnknownTrain, TrainWithoutPlace, EmptySet, NoSuchOrigin, NoSuchDestination, OtherTrain}
 use Rattle.listing.specs.Yards.{start}
-use Rattle.listing.specs.Shape.{Shaped, Placed}
-use Rattle.listing.specs.Bytes.{yard-in, listed, from-of, to-of, owner-at, set-at, count-at, from-at, to-at, end-at}
+use Rattle.listing.specs.Shape.{Shaped}
+use Rattle.listing.specs.Bytes.{yard-in, from-of, to-of, owner-at, set-at, from-at, to-at}
 use Rattle.listing.specs.Rules.{Rule, trains-there, trains-ranged, places-there, places-ranged, owners-there, owners-known, trains-placed, sets-there, sets-filled, count-there, count-ranged, moves-there, nothing-over, moves-allowed, Allowed, Not-allowed, from-nowhere, to-nowhere, other-train, Holds, Breaks, Well-listed, Stops-at, Checked, rules}
 use Rattle.listing.specs.Order.{All-hold}
 use Rattle.listing.proofs.Ordered.{all-listed, never-stops, stops-once, all-or-stops}

@@ -1,7 +1,7 @@
 -- The lowest number that passes a test, whether one passes, and sums.
-use Prim.Native.Nat.{ℕ, zero, suc, _+_, _≤_, _<_}
-use mathlib.Core.Path.{_≡_, refl, sym, _∙_, ap, ap₂, subst}
-use mathlib.Core.Bool.{Bool, true, false, cond, _||_}
+use Prim.Native.Nat.{ℕ, zero, suc, _+_, _<_}
+use mathlib.Core.Path.{_≡_, refl, _∙_, ap, ap₂, subst}
+use mathlib.Core.Bool.{Bool, true, false, _||_}
 use native.Mathlib.Omega.{arith}
 use native.Mathlib.Numerals.{add-one}
 use native.Mathlib.Decide.{ℕ-discrete, decLt}
@@ -78,14 +78,6 @@ summed-same (suc n) f g h =
     let e : summed n f ≡ summed n g = summed-same n f g (λ i k. h i (omega arith)) in
     let k : f n ≡ g n = h n (omega arith) in
     rw (e, k)
-
--- the count by another name
-pub first-count : {F : Type 0} {n m : ℕ} {passes : ℕ → Type 0} {fails : ℕ → F → Type 0} {fault : F} → n ≡ m
-    → First n passes fails fault → First m passes fails fault
-first-count e f = record { at = f .at; below = let h = f .below in omega arith; fault = f .fault; earlier = f .earlier }
-
-pub each-count : {n m : ℕ} {passes : ℕ → Type 0} → n ≡ m → Each n passes → Each m passes
-each-count e h i k = h i (omega arith)
 
 -- there is one first fault
 pub first-once : {F : Type 0} (n : ℕ) (passes : ℕ → Type 0) (fails : ℕ → F → Type 0)

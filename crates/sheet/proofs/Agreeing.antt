@@ -1,19 +1,14 @@
 -- Yards that say the same keep the same rules.
-use Prim.Native.Nat.{ℕ, _≤_, _<_}
-use mathlib.Core.Path.{_≡_, refl, sym, _∙_, ap, ap₂, subst}
-use mathlib.Core.Bool.{Bool, true, false, cond, _&&_}
-use mathlib.Core.Logic.{inl, inr}
+use Prim.Native.Nat.{ℕ}
+use mathlib.Core.Path.{_≡_, _∙_, ap, ap₂}
 use native.Mathlib.Omega.{arith}
-use Rattle.std.proofs.shelf.Tests.{cases-lt}
-use Rattle.net.specs.Walks.{Walk, last, then, NoCircle, Circular}
+use Rattle.net.specs.Walks.{Walk, last, then, NoCircle}
 use Rattle.listing.proofs.Agreeing.{start-same, same-turned}
 use Rattle.listing.specs.Yards.{Yard, start, Same}
-use Rattle.listing.specs.declared.place.Destination.the-variants.{Place, Out}
-use Rattle.sheet.specs.Conflicts.{conflict, pairs}
+use Rattle.sheet.specs.Conflicts.{conflict}
 use Rattle.sheet.specs.Lawful.{Lawful, No-circles, Starts-apart, First-circle, Shares-start, First-shared}
-use Rattle.sheet.specs.Movement.{arcs, Leads}
-use Rattle.sheet.specs.Moving.{arcs-leads}
-use Rattle.sheet.proofs.Arcs.{arcs-missing, arcs-carried}
+use Rattle.sheet.specs.Movement.{arcs}
+use Rattle.sheet.proofs.Arcs.{arcs-carried}
 use Rattle.sheet.proofs.Conflicting.{conflict-same, pairs-same}
 
 module _ (y z : Yard) (s : Same y z) where

@@ -2,12 +2,12 @@
 use Prim.Native.Nat.{ℕ, _<_, _≤_}
 use mathlib.Core.Path.{_≡_, refl, sym, _∙_, ap, ap₂}
 use mathlib.Core.Bool.{Bool, true, false, not, _&&_}
-use mathlib.Core.Logic.{_≢_, _↔_, inl, inr}
+use mathlib.Core.Logic.{_↔_, inl, inr}
 use native.Mathlib.Omega.{arith}
 use lib.Dec.{eqb, ltb}
-use Rattle.std.proofs.shelf.Tests.{and-parts, and-from, and-left, ltb-true, lt-ltb, le-ltb, not-true, not-from-false, eqb-false, ne-eqb, eq-eqb, cases-lt, cases-bool, both-ways}
-use Rattle.blocks.specs.Members.{Common, shared, tally}
-use Rattle.blocks.proofs.Sharing.{shared-common, common-shared, shared-comm}
+use Rattle.std.proofs.shelf.Tests.{and-parts, and-from, ltb-true, lt-ltb, not-true, not-from-false, eqb-false, ne-eqb, eq-eqb, cases-bool}
+use Rattle.blocks.specs.Members.{shared, tally}
+use Rattle.blocks.proofs.Sharing.{shared-common, common-shared}
 use Rattle.blocks.proofs.Tallies.{tally-same}
 use Rattle.listing.specs.Scans.{summed}
 use Rattle.listing.specs.Yards.{Yard, Same}

@@ -1,9 +1,9 @@
 -- Bytes either are a sheet or get one refusal.
-use Prim.Native.Nat.{ℕ, _≤_, _<_}
-use mathlib.Core.Path.{_≡_, refl, sym, _∙_, ap, subst}
+use Prim.Native.Nat.{ℕ, _≤_}
+use mathlib.Core.Path.{_≡_, refl, sym, ap, subst}
 use mathlib.Core.Bool.{true}
 use mathlib.Core.List.{List}
-use mathlib.Core.Logic.{_⊎_, inl, inr, _↔_}
+use mathlib.Core.Logic.{inl, inr, _↔_}
 use native.Mathlib.Omega.{arith}
 use Rattle.std.proofs.shelf.Tests.{cases-order}
 use Rattle.std.specs.declared.result.Result.{Result}
@@ -13,11 +13,11 @@ use Rattle.std.specs.Results.{isOk}
 use Rattle.std.specs.Vec.{made}
 use Rattle.sheet.specs.Sheets.{yard}
 use Rattle.listing.specs.Bytes.{yard-in}
-use Rattle.listing.specs.Rules.{Well-listed, Stops-at}
+use Rattle.listing.specs.Rules.{Well-listed}
 use Rattle.listing.specs.Yards.{Yard, Same}
 use Rattle.listing.proofs.Agreeing.{same-turned}
 use Rattle.listing.proofs.Exact.{shaped, apart, once}
-use Rattle.sheet.specs.Lawful.{Lawful, No-circles, Starts-apart, First-circle, First-shared}
+use Rattle.sheet.specs.Lawful.{No-circles, Starts-apart, First-circle, First-shared}
 use Rattle.net.specs.Marks.{Cleared}
 use Rattle.listing.specs.Listings.{yard as listed-yard}
 use Rattle.listing.specs.declared.content.Listing.{Listing}

@@ -1,21 +1,21 @@
 -- The sheet of one train in block 0 with one move, out, is lawful.
-use Prim.Native.Nat.{ℕ, _≤_, _<_, _+_}
-use mathlib.Core.Path.{_≡_, refl, sym, _∙_, ap, subst}
-use mathlib.Core.Bool.{Bool, true, false, _&&_}
+use Prim.Native.Nat.{ℕ, _≤_, _<_}
+use mathlib.Core.Path.{_≡_, refl, subst}
+use mathlib.Core.Bool.{true, false}
 use mathlib.Core.Logic.{inl, inr}
 use native.Mathlib.Omega.{arith}
 use lib.Dec.{eqb}
 use Rattle.std.proofs.shelf.Tests.{and-parts, both-ways, cases-bool}
 use Rattle.blocks.proofs.Tallies.{tally-most}
-use Rattle.net.specs.Walks.{Walk, last, then, NoCircle}
+use Rattle.net.specs.Walks.{Walk, last, then}
 use Rattle.listing.specs.Listings.{fresh}
 use Rattle.listing.specs.Yards.{start}
 use Rattle.listing.specs.Moves.{same-destination}
 use Rattle.listing.specs.declared.place.Destination.{Destination}
 use Rattle.listing.specs.declared.place.Destination.the-variants.{Place, Out}
-use Rattle.sheet.specs.Conflicts.{conflict, pairs}
+use Rattle.sheet.specs.Conflicts.{conflict}
 use Rattle.sheet.specs.Lawful.{Lawful}
-use Rattle.sheet.specs.Movement.{arcs, event, Leads}
+use Rattle.sheet.specs.Movement.{arcs, event}
 use Rattle.sheet.specs.Moving.{arcs-leads}
 use Rattle.sheet.proofs.Conflicting.{conflict-holds}
 

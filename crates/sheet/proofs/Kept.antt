@@ -1,6 +1,5 @@
 -- The fact that a sheet holds says all its rules: each of them is a proposition.
-use mathlib.Core.Path.{_≡_}
-use mathlib.Core.Bool.{false, Bool-set}
+use mathlib.Core.Bool.{Bool-set}
 use mathlib.Core.HLevel.{⊥-prop}
 use mathlib.Core.Logic.{∥∥₁-elim}
 use native.Mathlib.Bridge.{le-prop}

@@ -2,13 +2,12 @@
 use Prim.Native.Nat.{ℕ, _<_}
 use mathlib.Core.Path.{_≡_}
 use mathlib.Core.List.{List}
-use lib.ListN.{length}
 use Prim.Native.Nat.{_≤_}
 use Rattle.std.specs.declared.result.Result.{Result}
 use Rattle.std.specs.declared.result.Result.the-variants.{Ok, Err}
 use Rattle.listing.specs.Bytes.{yard-in}
 use Rattle.listing.specs.Listings.{yard as listed-yard}
-use Rattle.listing.specs.Yards.{Yard, Same}
+use Rattle.listing.specs.Yards.{Same}
 use Rattle.listing.specs.declared.content.Listing.{Listing}
 use Rattle.sheet.specs.Conflicts.{pairs}
 use Rattle.sheet.specs.Lawful.{Lawful, No-circles, Starts-apart, First-circle, First-shared}

@@ -2,7 +2,7 @@
 ghost use mathlib.Core.Path.{_≡_};
 ghost use mathlib.Core.Bool.{true};
 ghost use mathlib.Core.Logic.{_↔_};
-ghost use Prim.Native.Nat.{_≤_, _<_};
+ghost use Prim.Native.Nat.{_≤_};
 ghost use Rattle.blocks.specs.Members.{tally};
 ghost use Rattle.listing.specs.Listings.{yard};
 ghost use Rattle.sheet.specs.Conflicts.{conflict, Conflict, pairs};
@@ -12,6 +12,7 @@ use listing::content::Listing;
 pub(crate) fn in_conflict(listing: &Listing, first: usize, second: usize) -> bool
     ensures value { λ r. ⌜ r ≡ conflict (yard (now (listing .entry))) first second ⌝ }
     ensures law { λ r. ⌜ ((r ≡ true) ↔ Conflict (yard (now (listing .entry))) first second) ⌝ }
+    ensures turned { λ r. ⌜ r ≡ conflict (yard (now (listing .entry))) second first ⌝ }
 {
     let Some(a) = listing.place(first) else {
         return false;

@@ -2,7 +2,6 @@
 ghost use mathlib.Core.Path.{_≡_};
 ghost use lib.Dec.{eqb};
 ghost use Prim.Native.Nat.{_≤_, _<_};
-ghost use Rattle.blocks.specs.Members.{tally};
 ghost use Rattle.listing.specs.Listings.{yard};
 ghost use Rattle.sheet.specs.Counts.{own-places, onward, moves};
 use listing::content::Listing;

@@ -45,6 +45,7 @@ impl Sheet {
     pub fn conflict(&self, first: usize, second: usize) -> bool
         ensures value { λ r. ⌜ r ≡ conflict (yard (now (self .entry))) first second ⌝ }
         ensures law { λ r. ⌜ ((r ≡ true) ↔ Conflict (yard (now (self .entry))) first second) ⌝ }
+        ensures turned { λ r. ⌜ r ≡ conflict (yard (now (self .entry))) second first ⌝ }
     {
         in_conflict(&self.listing, first, second)
     }

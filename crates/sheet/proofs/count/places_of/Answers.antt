@@ -1,7 +1,6 @@
-use mathlib.Core.Path.{sym, _∙_, ap}
+use mathlib.Core.Path.{sym, _∙_}
 use native.Mathlib.Omega.{arith}
 use lib.Dec.{eqb}
-use Rattle.blocks.specs.Members.{tally}
 use Rattle.blocks.proofs.Tallies.{tally-none, tally-in, tally-out}
 use Rattle.listing.specs.Listings.{yard}
 use Rattle.sheet.proofs.count.places_of.Needs as need

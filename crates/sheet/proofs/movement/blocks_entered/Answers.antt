@@ -1,7 +1,6 @@
-use mathlib.Core.Path.{_≡_, sym, _∙_, ap}
+use mathlib.Core.Path.{sym, _∙_, ap}
 use native.Mathlib.Omega.{arith}
 use lib.IntN.{pos}
-use mir.Val.{toZ}
 use mir.Syntax.{w32}
 use Rattle.std.proofs.shelf.Signed.{toZ-pos}
 use Rattle.listing.specs.Listings.{yard}

@@ -1,5 +1,4 @@
 use mathlib.Core.Path.{sym, _∙_}
-use native.Mathlib.Omega.{arith}
 use Rattle.std.proofs.shelf.Tests.{ne-eqb}
 use Rattle.listing.specs.Listings.{yard}
 use Rattle.sheet.proofs.Arcs.{arcs-missing, arcs-other, arcs-place, arcs-out, arcs-none}

@@ -1,4 +1,3 @@
-use mathlib.Core.Path.{_≡_}
 use Rattle.std.specs.declared.result.Result.the-variants.{Ok, Err}
 use Rattle.std.proofs.shelf.Results.{cases-at-ok, cases-at-err}
 use Rattle.listing.specs.declared.content.Listing.{Listing}

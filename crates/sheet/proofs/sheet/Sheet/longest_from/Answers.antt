@@ -1,5 +1,5 @@
 use Prim.Native.Nat.{ℕ}
-use mathlib.Core.Path.{_≡_, sym, subst}
+use mathlib.Core.Path.{_≡_, subst}
 use Rattle.std.specs.Options.{Cases}
 use Rattle.net.specs.Walks.{NoCircle, Circular, Greatest}
 use Rattle.listing.specs.Listings.{yard}
