@@ -1,3 +1,5 @@
+#![tactic(auto)]
+
 // Sets of blocks. A block is a number from 0 to 63, and a set has one bit for each.
 ghost use Rattle.std.specs.Prelude.{◌≡◌, ◌≤◌, true, ◌↔◌, MatchOption};
 ghost use Rattle.blocks.specs.Members.{has, Empty, Lowest, shared, Common, lacked};

@@ -1,3 +1,5 @@
+#![tactic(auto)]
+
 // Tests of nets, sets of blocks, reading and sheets on small examples.
 mod chain;
 #[cfg(test)]

@@ -1,3 +1,5 @@
+#![tactic(auto)]
+
 // Runs both engines through the same adds and drops, counts where their answers differ, and measures them on request.
 mod bench;
 mod random;

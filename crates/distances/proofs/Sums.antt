@@ -59,10 +59,10 @@ circle_level : (ds : List Difference) (d : Difference) (o : Option ℤ) → Best
 circle_level ds d None b still t w = absurd (b t w)
 circle_level ds d (Some s) b still t w =
     let h = b.1 t w in
-    elim (cases_leZ (s +ℤ d.k) (pos 0)) [ inl l ↦ omega (arith, ints) | inr l ↦ absurd (still (omega (arith, ints))) ]
+    elim (cases_le_z (s +ℤ d.k) (pos 0)) [ inl l ↦ omega (arith, ints) | inr l ↦ absurd (still (omega (arith, ints))) ]
   where
-    cases_leZ : (x y : ℤ) → (x ≤ℤ y) ⊎ (y <ℤ x)
-    cases_leZ x y = by_lt_z y x (λ l. inr l) (λ l. inl l)
+    cases_le_z : (x y : ℤ) → (x ≤ℤ y) ⊎ (y <ℤ x)
+    cases_le_z x y = by_lt_z y x (λ l. inr l) (λ l. inl l)
 
 -- a circle rises with d exactly if the greatest sum of the ways back rises with its k
 pub closing : (ds : List Difference) (d : Difference) (o : Option ℤ) (b : Bool) → NoRisingCircle ds → o ≡ ways ds d.to d.from → Rising d.k o b → Closing ds d b

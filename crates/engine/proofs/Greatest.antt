@@ -1,5 +1,5 @@
 -- The greatest sums over walks, as one difference more is held.
-use Rattle.std.proofs.Common.{◌≡◌, ℕ, zero, ◌+◌, ◌-◌, ◌<◌, ◌≤◌, Bool, true, false, cond, eqb, ◌⊎◌, List, [], ◌∷◌, ◌++◌, ℤ, pos, negsuc, ◌+ℤ◌, ◌≤ℤ◌, Some, None, Option, sym, refl, ap, subst, inl, inr, append_assoc, arith}
+use Rattle.std.proofs.Common.{◌≡◌, ℕ, ◌<◌, ◌≤◌, Bool, true, false, cond, eqb, ◌⊎◌, List, [], ◌∷◌, ◌++◌, ℤ, pos, negsuc, ◌+ℤ◌, ◌≤ℤ◌, Some, None, Option, sym, refl, ap, subst, inl, inr, append_assoc, arith}
 use lib.Signed.{lt_z}
 use Rattle.std.proofs.lemmas.Int.{ints}
 use Rattle.std.proofs.lemmas.List.{append-nil}
@@ -130,7 +130,7 @@ ways_push f (x ∷ ds) d = ways_push (raised f x) ds d
 
 -- so a greatest sum is not far from zero
 pub best_near : (n : ℕ) (ds : List Difference) (x y : ℕ) (s : ℤ) → n ≤ 96 → x < n → Lawful n ds → NoRisingCircle ds → Best ds x y (Some s) → (negsuc 94999 ≤ℤ s) × (s ≤ℤ pos 95000)
-best_near n ds x y s few-events low ok flat b =
+best_near n ds x y s few_events low ok flat b =
     let r = short flat b.0 in
     let fewer = few n r.seen r.apart (path_under n ok low r.path) in
     let most = b.1 r.total (path_walk r.path) in

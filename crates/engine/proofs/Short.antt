@@ -1,14 +1,14 @@
 -- Where no circle rises, each walk has one that visits no event twice, with the same ends and at least its sum.
-use Rattle.std.proofs.Common.{◌≡◌, ℕ, zero, suc, ◌+◌, ◌-◌, ◌*◌, ◌<◌, ◌≤◌, ◌⊎◌, List, [], ◌∷◌, length, ℤ, pos, ◌+ℤ◌, ◌≤ℤ◌, sym, refl, subst, inl, inr, arith}
+use Rattle.std.proofs.Common.{◌≡◌, ℕ, zero, suc, ◌*◌, ◌<◌, ◌≤◌, ◌⊎◌, List, [], ◌∷◌, length, ℤ, pos, ◌+ℤ◌, ◌≤ℤ◌, sym, refl, subst, inl, inr, arith}
 use Rattle.std.proofs.lemmas.Int.{ints}
 use Rattle.std.proofs.lemmas.Bool.{cases_eq}
 use Rattle.engine.specs.Circles.{Walk, stay, step, NoRisingCircle, Lawful}
 use Rattle.engine.specs.Paths.{Visited, Distinct, Path, end, on, Short}
 use Rattle.engine.specs.declared.difference.Difference.{Difference}
 
-visited? : (x : ℕ) (vs : List ℕ) → Visited x vs ⊎ (Visited x vs → ⊥)
-visited? x [] = inr (λ h. h)
-visited? x (v ∷ vs) = by (cases_eq x v) (visited? x vs)
+is_visited : (x : ℕ) (vs : List ℕ) → Visited x vs ⊎ (Visited x vs → ⊥)
+is_visited x [] = inr (λ h. h)
+is_visited x (v ∷ vs) = by (cases_eq x v) (is_visited x vs)
   where
     by : ((x ≡ v) ⊎ (x ≡ v → ⊥)) → (Visited x vs ⊎ (Visited x vs → ⊥)) → Visited x (v ∷ vs) ⊎ (Visited x (v ∷ vs) → ⊥)
     by (inl e) r = inl (inl e)
@@ -107,7 +107,7 @@ short {ds} flat (step {b} {s} d h w) = by (short flat w)
         record { total = d.k +ℤ r.total; seen = d.from ∷ r.seen; path = on d h r.path; apart = (v, r.apart); above = omega (arith, ints, r.above) }
 
     by : Short ds d.to b s → Short ds d.from b (d.k +ℤ s)
-    by r = by_seen r (visited? d.from r.seen)
+    by r = by_seen r (is_visited d.from r.seen)
 
 pub path_under : {ds : List Difference} {a b : ℕ} {s : ℤ} {vs : List ℕ} (n : ℕ) → Lawful n ds → a < n → Path ds a b s vs → Under n vs
 path_under n ok low end = (low, tt)

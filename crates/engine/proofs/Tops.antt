@@ -100,7 +100,7 @@ pub greatest_low : {ds : List Difference} {y : ℕ} {s : ℤ} → Greatest ds y 
 greatest_low {ds} {y} g = g.most y (pos 0) stay
 
 pub greatest_high : {ds : List Difference} {y : ℕ} {s : ℤ} (n : ℕ) → n ≤ 96 → y < n → Lawful n ds → NoRisingCircle ds → Greatest ds y s → s ≤ℤ pos 95000
-greatest_high n few-events low ok flat g =
+greatest_high n few_events low ok flat g =
     let s = short flat g.walk in
     let fewer = few n s.seen s.apart (path_under n ok (starts n ok low g.walk) s.path) in
     let high = path_high n ok s.path in

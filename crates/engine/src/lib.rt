@@ -1,3 +1,5 @@
+#![tactic(auto)]
+
 // Engines that hold differences between events and refuse a circle that rises.
 pub mod difference;
 pub mod engine;

@@ -1,3 +1,5 @@
+#![tactic(auto)]
+
 // Tests of both engines on small examples: each is written once and run with each make.
 #[cfg(test)]
 mod both;

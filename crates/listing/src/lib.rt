@@ -1,3 +1,5 @@
+#![tactic(auto)]
+
 // What a sheet's bytes list: trains, places, sets of blocks and moves.
 mod bytes;
 mod check;

@@ -1,5 +1,5 @@
 -- The steps of the search for the longest way.
-use Rattle.std.proofs.Common.{◌≡◌, ℕ, zero, suc, ◌+◌, ◌-◌, ◌*◌, ◌<◌, ◌≤◌, Bool, true, false, cond, ◌≢◌, List, length, get_or, set, ℤ, pos, negsuc, ◌+ℤ◌, ◌≤ℤ◌, sym, refl, ap, ◌∙◌, inl, inr, arith, below_more}
+use Rattle.std.proofs.Common.{◌≡◌, ℕ, zero, suc, ◌+◌, ◌*◌, ◌<◌, ◌≤◌, Bool, true, false, cond, ◌≢◌, List, length, get_or, set, ℤ, pos, negsuc, ◌+ℤ◌, ◌≤ℤ◌, sym, refl, ap, ◌∙◌, inl, inr, arith, below_more}
 use lib.Signed.{lt_z}
 use Rattle.std.proofs.lemmas.List.{get_or-set_same, get_or-set_other}
 use Rattle.std.proofs.lemmas.Int.{ints, clamps}
@@ -9,7 +9,7 @@ use Rattle.net.specs.Walks.{NoCircle, Way, Greatest, stay, go}
 use Rattle.net.specs.Marks.{mark_of}
 use Rattle.net.specs.declared.marks.Mark.{Mark}
 use Rattle.net.specs.declared.marks.Mark.TheVariants as marked
-use Rattle.net.specs.Visits.{Done, Grown, Ready}
+use Rattle.net.specs.Visits.{Grown, Ready}
 use Rattle.net.specs.Sums.{tally, done_count, Summed, Open, Settled}
 use Rattle.net.proofs.Searches.{Going, kinds_kept, circle_met, ready_next, own_path, passed_all, visited_all}
 

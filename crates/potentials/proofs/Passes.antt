@@ -1,5 +1,5 @@
 -- Passes over the held differences raise the numbers to the greatest sums.
-use Rattle.std.proofs.Common.{◌≡◌, ℕ, zero, suc, ◌+◌, ◌-◌, ◌*◌, ◌<◌, ◌≤◌, Bool, true, false, ◌⊎◌, List, [], ◌∷◌, ◌++◌, length, set, ℤ, pos, ◌+ℤ◌, ◌≤ℤ◌, ◌<ℤ◌, sym, refl, ap, ◌∙◌, subst, inl, inr, arith, lit≤, length-set}
+use Rattle.std.proofs.Common.{◌≡◌, ℕ, zero, suc, ◌+◌, ◌*◌, ◌<◌, ◌≤◌, Bool, true, false, ◌⊎◌, List, [], ◌∷◌, ◌++◌, length, set, ℤ, pos, ◌+ℤ◌, ◌≤ℤ◌, ◌<ℤ◌, sym, refl, ap, ◌∙◌, subst, inl, inr, arith, lit≤, length-set}
 use Rattle.std.proofs.lemmas.List.{get_or-set_same, get_or-set_other, length_push}
 use Rattle.std.proofs.lemmas.Int.{ints}
 use Rattle.std.proofs.lemmas.Bool.{cases_eq}
@@ -45,7 +45,7 @@ module _ (done : List Difference) (old new : List ℤ) (c : Bool) (r : Passed do
       let v = number new d.from +ℤ d.k in
       let place : d.to < length new = omega (arith, among.1, r.sized) in
       let from_up = r.up d.from among.0 in
-      let to-up = r.up d.to among.1 in
+      let to_up = r.up d.to among.1 in
       let more : (y : ℕ) → number new y ≤ℤ number (set new d.to v) y = λ y. set_each new d v place (λ z w. number new z ≤ℤ w) y (omega (arith, ints)) (λ e. let same : number new y ≡ number new d.to = ap (number new) e in omega (arith, ints)) in
       record {
         sized = length-set new d.to v ∙ r.sized;
@@ -239,11 +239,11 @@ module _ (ds : List Difference) (d : Difference) (ps : List ℤ) (ok : Lawful 96
             met = subst (λ w. v ≤ℤ w) (sym (set_here ps d v place)) (omega (arith, ints));
           }
 
-  module _ (r : ℕ) (before : ℤ) (old new : List ℤ) (m : Mending ds d ps r before old) (few_held : length ds ≤ 1100) (still-there : number old d.from ≡ before) where
+  module _ (r : ℕ) (before : ℤ) (old new : List ℤ) (m : Mending ds d ps r before old) (few_held : length ds ≤ 1100) (still_there : number old d.from ≡ before) where
     -- a pass over the held differences passes over the new one too, since its start has not risen
     passed_whole : (c : Bool) → Passed ds old new c → Passed (ds ++ (d ∷ [])) old new c
     passed_whole c p =
-        let to-up = p.up d.to among.1 in
+        let to_up = p.up d.to among.1 in
         record {
           sized = p.sized;
           up = p.up;
@@ -259,7 +259,7 @@ module _ (ds : List Difference) (d : Difference) (ps : List ℤ) (ok : Lawful 96
     pub mending_more : Passed ds old new true → Mending ds d ps (r + 1) before new
     mending_more p =
         let q = passed_whole true p in
-        let to-up = p.up d.to among.1 in
+        let to_up = p.up d.to among.1 in
         let from_up = p.up d.from among.0 in
         record {
           sized = p.sized;

@@ -1,3 +1,5 @@
+#![tactic(auto)]
+
 // Sheets: the listed content with the rules of the whole yard, and what follows from them.
 mod check;
 mod conflict;

@@ -1,3 +1,5 @@
+#![tactic(auto)]
+
 // Reads the sheet of a yard, checks every rule, and prints what it found.
 mod words;
 

@@ -3,8 +3,8 @@ use Rattle.std.proofs.lemmas.Int.{ints}
 use Rattle.distances.proofs.Tables.{bounded_into, bounded_out, rows_none, rows_more, rows_all}
 use Rattle.distances.proofs.table.raise.Goals as goal
 
-pub raise-row-requires : goal.raise-row-requires
-raise-row-requires c =
+pub raise_row-requires : goal.raise_row-requires
+raise_row-requires c =
     let n = c.args.n in
     let d = c.args.difference in
     let old = c.args.table.now in
@@ -20,7 +20,7 @@ loop-x-init c = rows_none c.args.n c.args.difference c.args.table.now
 
 pub loop-x-preserved : goal.loop-x-preserved
 loop-x-preserved c =
-    rows_more c.args.n c.loop-x.x c.args.difference c.column-into.result c.row-out.result c.args.table.now c.loop-x.table c.raise-row.new.table _ c.loop-x-test.true (omega (arith, ints, c.requires.small.0, c.requires.small.1)) c.column-into.ensures c.row-out.ensures c.loop-x.invariant c.raise-row.ensures
+    rows_more c.args.n c.loop-x.x c.args.difference c.column-into.result c.row-out.result c.args.table.now c.loop-x.table c.raise_row.new.table _ c.loop-x-test.true (omega (arith, ints, c.requires.small.0, c.requires.small.1)) c.column-into.ensures c.row-out.ensures c.loop-x.invariant c.raise_row.ensures
 
 pub returns : goal.returns
 returns c = rows_all c.args.n c.loop-x.x c.args.difference c.args.table.now c.loop-x.table (omega (arith, c.loop-x-test.false, c.loop-x.auto.x-end)) c.loop-x.invariant

@@ -5,7 +5,7 @@ use Rattle.distances.proofs.table.raise_row.Goals as goal
 
 pub loop-y-preserved : goal.loop-y-preserved
 loop-y-preserved c =
-    front_more c.args.n c.args.x c.loop-y.y c.position-place.result c.args.into _ c.args.out.now c.args.table.now c.loop-y.table _ _ c.loop-y.invariant c.position-place.ensures.0 c.position-place.ensures.1 c.sum-over.ensures c.greater-of.ensures
+    front_more c.args.n c.args.x c.loop-y.y c.position-place.result c.args.into _ c.args.out.now c.args.table.now c.loop-y.table _ _ c.loop-y.invariant c.position-place.ensures.0 c.position-place.ensures.1 c.sum_over.ensures c.greater_of.ensures
 
 pub returns : goal.returns
 returns c =

@@ -1,16 +1,16 @@
 use Rattle.std.proofs.Common.{arith}
 use Rattle.engine.proofs.Scans.{passed_none, passed_more, passed_all, found_here, joins_not}
 use Rattle.engine.proofs.precedence.leads.Goals as goal
-use Rattle.engine.proofs.precedence.leads.Goals.{in-Ok+else-difference-from, in-default}
+use Rattle.engine.proofs.precedence.leads.Goals.{in-Ok+else-difference-from, in_default}
 
 pub loop-place-init : goal.loop-place-init
 loop-place-init g c = passed_none (g.E.DifferenceEngine.state c.args.engine.now).held c.args.from c.args.to
 
 pub loop-place-preserved : goal.loop-place-preserved
 loop-place-preserved g c =
-    elim c.match-held-at.branch [
+    elim c.match-held_at.branch [
       | in-Ok+else-difference-from w ↦ (let read = w.in-Ok.ensures in passed_more _ _ _ read.0 read.1 _ _ (joins_not w.in-Ok.difference _ _ w.else-difference-from.either) c.loop-place.invariant)
-      | in-default w ↦ absurd (omega (arith, w.in-default.ensures.1))
+      | in_default w ↦ absurd (omega (arith, w.in_default.ensures.1))
     ]
 
 pub returns-then-difference-to : goal.returns-then-difference-to

@@ -9,14 +9,14 @@ loop-difference-init g c = reached_none _ _
 pub loop-difference-preserved : goal.loop-difference-preserved
 loop-difference-preserved g c =
     reached_more _ _ _ _ (g.E.DifferenceEngine.sound c.loop-difference.engine) c.loop-difference.invariant c.loop-difference-test.true no_difference _
-    c.in-ok-add.ensures
+    c.in_ok-add.ensures
 
-pub returns-in-err-add : goal.returns-in-err-add
-returns-in-err-add g c =
-    let p = err_from_is_err_and c.from-residual.result c.from-residual.ensures.1 in
+pub returns-in_err-add : goal.returns-in_err-add
+returns-in_err-add g c =
+    let p = err_from_is_err_and c.from_residual.result c.from_residual.ensures.1 in
     rw (p.1, p.2)
     (stopped _ _ _ _ (g.E.DifferenceEngine.sound c.loop-difference.engine) c.loop-difference.invariant c.loop-difference-test.true no_difference
-    (g.E.DifferenceEngine.state c.add.new.self) c.in-err-add.field-0.0 c.in-err-add.ensures)
+    (g.E.DifferenceEngine.state c.add.new.self) c.in_err-add.field-0.0 c.in_err-add.ensures)
 
 pub returns : goal.returns
 returns g c = reached_all _ _ _ _ (g.E.DifferenceEngine.sound c.loop-difference.engine) c.loop-difference.invariant c.loop-difference-test.false

@@ -4,8 +4,8 @@ use Rattle.engine.proofs.together.shorten_to.Given as given
 use Rattle.engine.proofs.together.shorten_to.Goals as goal
 
 -- more than count are held, so there is one to drop
-less : (g : given.Over) (c : goal.After-drop-newest g) → Less (g.E.DifferenceEngine.state c.loop-engine.engine) (g.E.DifferenceEngine.state c.drop-newest.new.self)
-less g c = dropped_less _ _ c.drop-newest.result (omega arith) c.drop-newest.ensures
+less : (g : given.Over) (c : goal.After-drop_newest g) → Less (g.E.DifferenceEngine.state c.loop-engine.engine) (g.E.DifferenceEngine.state c.drop_newest.new.self)
+less g c = dropped_less _ _ c.drop_newest.result (omega arith) c.drop_newest.ensures
 
 pub loop-engine-init : goal.loop-engine-init
 loop-engine-init g c = shortened_none _ _

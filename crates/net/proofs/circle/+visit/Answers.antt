@@ -4,7 +4,7 @@ use Rattle.net.proofs.Counts.{unseen}
 use Rattle.net.proofs.Decoded.{byte_unseen, byte_on_path, byte_done}
 use Rattle.net.proofs.Searches.{going_first, fewer_unseen, ready_next, circle_met, going_past, going_after, kinds_kept, visited_here, visited_on, visited_all, going_room}
 use Rattle.net.proofs.circle.+visit.Goals as goal
-use Rattle.net.proofs.circle.+visit.Goals.{then-has-arc+in-Unseen+in-default, then-has-arc+in-Done, else-has-arc}
+use Rattle.net.proofs.circle.+visit.Goals.{then-has_arc+in-Unseen+in_default, then-has_arc+in-Done, else-has_arc}
 
 pub loop-next-init : goal.loop-next-init
 loop-next-init g t c =
@@ -20,7 +20,7 @@ mark-requires g t c =
 pub visit-requires : goal.visit-requires
 visit-requires g t c κs within =
     let net = c.args.net.now in
-    let has = sym c.if-has-arc.ensures in
+    let has = sym c.if-has_arc.ensures in
     let ready = ready_next _ _ (g.N.Net.ranged net).1 (g.N.Net.inside net) _ _ c.requires _ c.put.ensures.written _ _ c.loop-next.invariant.1 has (byte_unseen _ c.in-Unseen.ensures) in
     let less = fewer_unseen _ _ (g.N.Net.ranged net).1 (g.N.Net.inside net) _ _ c.requires _ c.put.ensures.written _ _ c.loop-next.invariant.1 in
     (subst (λ n. unseen c.loop-next.marks.bytes.now < n) c.decreases less, (within, ready))
@@ -37,7 +37,7 @@ returns-in-Some g t c =
 pub returns-in-OnPath : goal.returns-in-OnPath
 returns-in-OnPath g t c =
     let net = c.args.net.now in
-    let has = sym c.if-has-arc.ensures in
+    let has = sym c.if-has_arc.ensures in
     let circle = circle_met _ _ (g.N.Net.ranged net).1 (g.N.Net.inside net) _ _ c.requires _ c.put.ensures.written _ _ c.loop-next.invariant.1 has (byte_on_path _ c.in-OnPath.ensures) in
     record {
       lent = c.loop-next.invariant.0 ∙ c.put.ensures.lent;
@@ -49,16 +49,16 @@ loop-next-preserved g t c =
     let net = c.args.net.now in
     let going = c.loop-next.invariant.1 in
     let few = (g.N.Net.ranged net).1 in
-    elim c.if-has-arc.branch [
-      | then-has-arc+in-Unseen+in-default w ↦
-          (let met = w.in-default.ensures in
+    elim c.if-has_arc.branch [
+      | then-has_arc+in-Unseen+in_default w ↦
+          (let met = w.in_default.ensures in
           rw w.marks-is (met.lent ∙ c.loop-next.invariant.0, going_after _ _ (g.N.Net.ranged net).1 (g.N.Net.inside net) _ _ c.requires _ c.put.ensures.written _ _ going _ met.visited.size met.visited.answer))
-      | then-has-arc+in-Done w ↦
+      | then-has_arc+in-Done w ↦
           (let kind = kinds_kept _ _ (g.N.Net.ranged net).1 (g.N.Net.inside net) _ _ c.requires _ c.put.ensures.written _ _ going c.loop-next.next (omega arith) in
           let far : 2 ≤ get_or c.loop-next.marks.bytes.now c.loop-next.next 0 = byte_done _ w.in-Done.ensures in
           rw w.marks-is (c.loop-next.invariant.0, going_past _ _ (g.N.Net.ranged net).1 (g.N.Net.inside net) _ _ c.requires _ c.put.ensures.written _ _ going (λ _. omega (arith, kind, far))))
-      | else-has-arc w ↦
-          rw w.marks-is (c.loop-next.invariant.0, going_past _ _ (g.N.Net.ranged net).1 (g.N.Net.inside net) _ _ c.requires _ c.put.ensures.written _ _ going (λ h. absurd (both_ways _ (sym w.if-has-arc.ensures) h)))
+      | else-has_arc w ↦
+          rw w.marks-is (c.loop-next.invariant.0, going_past _ _ (g.N.Net.ranged net).1 (g.N.Net.inside net) _ _ c.requires _ c.put.ensures.written _ _ going (λ h. absurd (both_ways _ (sym w.if-has_arc.ensures) h)))
     ]
 
 pub put-requires-2 : goal.put-requires-2

@@ -3,7 +3,7 @@ use Rattle.net.specs.Marks.{Cleared, mark_of}
 use Rattle.net.proofs.Decoded.{byte_unseen}
 use Rattle.net.proofs.Searches.{cleared_over, between_first, ready_start, between_past, between_after, no_circle}
 use Rattle.net.proofs.circle.find_circle.Goals as goal
-use Rattle.net.proofs.circle.find_circle.Goals.{in-Unseen+in-default-visit, in-default}
+use Rattle.net.proofs.circle.find_circle.Goals.{in-Unseen+in_default-visit, in_default}
 
 pub loop-start-init : goal.loop-start-init
 loop-start-init g c =
@@ -24,11 +24,11 @@ loop-start-preserved g c =
     let few = (g.N.Net.ranged net).1 in
     let inside = g.N.Net.inside net in
     elim c.match-mark.branch [
-      | in-Unseen+in-default-visit w ↦
-          (let met = w.in-default-visit.ensures in
+      | in-Unseen+in_default-visit w ↦
+          (let met = w.in_default-visit.ensures in
           rw w.marks-is (met.lent ∙ c.loop-start.invariant.0, between_after _ _ few inside _ _ room _ between _ met.visited))
-      | in-default w ↦
-          rw w.marks-is (c.loop-start.invariant.0, between_past _ _ few inside _ _ room _ between (omega arith) (λ e. w.in-default.not-Unseen (c.mark.ensures ∙ ap mark_of e)))
+      | in_default w ↦
+          rw w.marks-is (c.loop-start.invariant.0, between_past _ _ few inside _ _ room _ between (omega arith) (λ e. w.in_default.not-Unseen (c.mark.ensures ∙ ap mark_of e)))
     ]
 
 pub returns : goal.returns

@@ -4,8 +4,8 @@ use Rattle.potentials.specs.Numbers.{number}
 use Rattle.potentials.proofs.Passes.{tops_near, raise_rises, mending_none, mending_more, mending_done}
 use Rattle.potentials.proofs.numbers.mend.Goals as goal
 
-pub overflow-add-raised : goal.overflow-add-raised
-overflow-add-raised c =
+pub overflow_add-raised : goal.overflow_add-raised
+overflow_add-raised c =
     let near = tops_near c.args.held.now c.args.numbers.now c.args.difference.from c.requires.among.0 c.requires.lawful c.requires.level c.requires.told in
     omega (arith, ints, near.0, near.1, c.requires.small.0, c.requires.small.1)
 
@@ -48,7 +48,7 @@ returns-then-not-pass c =
     let near = tops_near ds ps d.from c.requires.among.0 c.requires.lawful c.requires.level c.requires.told in
     let high = m.high d.from c.requires.among.0 in
     let same : number c.loop-turn.raised d.from ≡ to_z w32 (of_z w32 (number ps d.from)) = omega (arith, ints, m.start, near.0, near.1, high, c.loop-turn-test.true, c.if-raised-difference.false) in
-    mending_done ds d ps c.requires.lawful c.requires.level c.requires.among c.requires.small c.requires.told c.loop-turn.-turn _ c.loop-turn.raised c.pass.new.numbers c.loop-turn.invariant c.requires.few same c.if-not-pass.ensures
+    mending_done ds d ps c.requires.lawful c.requires.level c.requires.among c.requires.small c.requires.told c.loop-turn._turn _ c.loop-turn.raised c.pass.new.numbers c.loop-turn.invariant c.requires.few same c.if-not-pass.ensures
 
 pub loop-turn-preserved : goal.loop-turn-preserved
 loop-turn-preserved c =
@@ -59,7 +59,7 @@ loop-turn-preserved c =
     let near = tops_near ds ps d.from c.requires.among.0 c.requires.lawful c.requires.level c.requires.told in
     let high = m.high d.from c.requires.among.0 in
     let same : number c.loop-turn.raised d.from ≡ to_z w32 (of_z w32 (number ps d.from)) = omega (arith, ints, m.start, near.0, near.1, high, c.loop-turn-test.true, c.if-raised-difference.false) in
-    mending_more ds d ps c.requires.lawful c.requires.level c.requires.among c.requires.small c.requires.told c.loop-turn.-turn _ c.loop-turn.raised c.pass.new.numbers c.loop-turn.invariant c.requires.few same c.if-not-pass.ensures
+    mending_more ds d ps c.requires.lawful c.requires.level c.requires.among c.requires.small c.requires.told c.loop-turn._turn _ c.loop-turn.raised c.pass.new.numbers c.loop-turn.invariant c.requires.few same c.if-not-pass.ensures
 
 pub returns : goal.returns
 returns c = c.loop-turn.invariant.risen c.loop-turn-test.false

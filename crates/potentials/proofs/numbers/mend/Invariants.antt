@@ -2,4 +2,4 @@ use Rattle.potentials.proofs.Passes.{Mending}
 use Rattle.potentials.proofs.numbers.mend.Given as goal
 
 abbrev pub invariant-loop-turn : goal.invariant-loop-turn
-invariant-loop-turn l = Mending l.held l.difference l.numbers l.-turn l.before l.raised
+invariant-loop-turn l = Mending l.held l.difference l.numbers l._turn l.before l.raised

@@ -7,7 +7,7 @@ use Rattle.sheet.proofs.conflict.conflict_count.Goals as goal
 
 pub loop-place-preserved : goal.loop-place-preserved
 loop-place-preserved c = (
-  ap₂ ◌+◌ c.loop-place.invariant.0 c.conflicts-below-count.ensures.value
+  ap₂ ◌+◌ c.loop-place.invariant.0 c.conflicts_below-count.ensures.value
       ∙ sym (summed_more c.loop-place.place (λ p. tally p (λ a. conflict (yard c.args.listing.now) a p))),
   omega arith,
 )

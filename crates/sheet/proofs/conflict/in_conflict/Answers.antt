@@ -14,12 +14,12 @@ returns-else-a-c c =
     let e = ap not (eq-eqb _ _ c.if-a-c.false) ∙ sym (conflict_own (yard c.args.listing.now) c.args.first c.args.second _ _ _ _ c.in-Some.ensures c.in-Some-place.ensures c.if-a-c.false) in
     record { value = e; law = tells (yard c.args.listing.now) c.args.first c.args.second _ e; turned = e ∙ conflict_comm (yard c.args.listing.now) c.args.first c.args.second }
 
-pub returns-in-default : goal.returns-in-default
-returns-in-default c =
-    let e = sym (conflict_first_missing (yard c.args.listing.now) c.args.first c.args.second c.in-default.ensures) in
+pub returns-in_default : goal.returns-in_default
+returns-in_default c =
+    let e = sym (conflict_first_missing (yard c.args.listing.now) c.args.first c.args.second c.in_default.ensures) in
     record { value = e; law = tells (yard c.args.listing.now) c.args.first c.args.second _ e; turned = e ∙ conflict_comm (yard c.args.listing.now) c.args.first c.args.second }
 
-pub returns-in-default-place : goal.returns-in-default-place
-returns-in-default-place c =
-    let e = sym (conflict_second_missing (yard c.args.listing.now) c.args.first c.args.second c.in-default-place.ensures) in
+pub returns-in_default-place : goal.returns-in_default-place
+returns-in_default-place c =
+    let e = sym (conflict_second_missing (yard c.args.listing.now) c.args.first c.args.second c.in_default-place.ensures) in
     record { value = e; law = tells (yard c.args.listing.now) c.args.first c.args.second _ e; turned = e ∙ conflict_comm (yard c.args.listing.now) c.args.first c.args.second }

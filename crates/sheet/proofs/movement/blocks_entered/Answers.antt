@@ -6,12 +6,12 @@ use Rattle.sheet.proofs.movement.blocks_entered.Goals as goal
 
 pub returns : goal.returns
 returns c =
-    to_z_pos w32 c.count-not-in.result (omega (arith, c.count-not-in.ensures.most))
-    ∙ ap pos c.count-not-in.ensures.value
+    to_z_pos w32 c.count_not_in.result (omega (arith, c.count_not_in.ensures.most))
+    ∙ ap pos c.count_not_in.ensures.value
     ∙ sym (weighs_entered (yard c.args.listing.now) c.args.from c.args.to _ _ _ _ c.in-Some.ensures c.in-Some-place.ensures)
 
-pub returns-in-default : goal.returns-in-default
-returns-in-default c = sym (weighs_from_none (yard c.args.listing.now) c.args.from c.args.to c.in-default.ensures)
+pub returns-in_default : goal.returns-in_default
+returns-in_default c = sym (weighs_from_none (yard c.args.listing.now) c.args.from c.args.to c.in_default.ensures)
 
-pub returns-in-default-place : goal.returns-in-default-place
-returns-in-default-place c = sym (weighs_to_none (yard c.args.listing.now) c.args.from c.args.to c.in-default-place.ensures)
+pub returns-in_default-place : goal.returns-in_default-place
+returns-in_default-place c = sym (weighs_to_none (yard c.args.listing.now) c.args.from c.args.to c.in_default-place.ensures)

@@ -19,7 +19,7 @@ rises-requires c =
     let e = c.args.self.now in
     let l = e.list.differences in
     let d = c.args.difference in
-    let way = back_way e d c.events-events.result c.sum-at-back.result c.requires.0 c.events-events.ensures c.sum-at-back.ensures in
+    let way = back_way e d c.events-events.result c.sum_at-back.result c.requires.0 c.events-events.ensures c.sum_at-back.ensures in
     record {
       bounded = subst Bounded (sym way) (ways_bounded l.events (held_in l) d.to d.from l.ranged.1 c.requires.0.1 l.lawful e.list.level);
       small = (omega (arith, ints, c.requires.1.0, c.requires.1.1), omega (arith, ints, c.requires.1.0, c.requires.1.1));
@@ -29,6 +29,6 @@ pub returns : goal.returns
 returns c =
     let e = c.args.self.now in
     let d = c.args.difference in
-    let way = back_way e d c.events-events.result c.sum-at-back.result c.requires.0 c.events-events.ensures c.sum-at-back.ensures in
+    let way = back_way e d c.events-events.result c.sum_at-back.result c.requires.0 c.events-events.ensures c.sum_at-back.ensures in
     let same : to_z w32 (of_z w32 d.k) ≡ d.k = omega (arith, ints, c.requires.1.0, c.requires.1.1) in
-    closing (held_in e.list.differences) d c.sum-at-back.result c.rises.result e.list.level way (subst (λ k. Rising k c.sum-at-back.result c.rises.result) same c.rises.ensures)
+    closing (held_in e.list.differences) d c.sum_at-back.result c.rises.result e.list.level way (subst (λ k. Rising k c.sum_at-back.result c.rises.result) same c.rises.ensures)

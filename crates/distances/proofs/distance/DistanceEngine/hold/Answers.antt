@@ -9,7 +9,7 @@ raise-requires c =
     let e = c.args.self.now in
     let l = e.list.differences in
     let n = c.events-events.result in
-    let pushed = c.in-ok-push.ensures in
+    let pushed = c.in_ok-push.ensures in
     let events : l.events ≡ n = sym (c.events-events.ensures ∙ pushed.1) in
     let few : n ≤ 96 = omega (arith, l.ranged.1) in
     let told = tabled_as l.events n (held_in l) (held_in l) e.table events refl e.told in
@@ -20,15 +20,15 @@ raise-requires c =
       bounded = tabled_bounded n (held_in l) e.table few (lawful_as l.events n (held_in l) (held_in l) events refl l.lawful) e.list.level told;
     }
 
-pub invariant-of-self-3 : goal.invariant-of-self-3
-invariant-of-self-3 c =
+pub invariant_of-self-3 : goal.invariant_of-self-3
+invariant_of-self-3 c =
     let e = c.args.self.now in
     let l = e.list.differences in
     let l' = c.push.new.self.differences in
     let d = c.args.difference in
     let n = c.events-events.result in
-    let pushed = c.in-ok-push.ensures in
+    let pushed = c.in_ok-push.ensures in
     let events : l.events ≡ n = sym (c.events-events.ensures ∙ pushed.1) in
     let told = tabled_as l.events n (held_in l) (held_in l) e.table events refl e.told in
     let among : Among n d = (omega (arith, pushed.0.0.0), omega (arith, pushed.0.0.1)) in
-    (tabled_as n l'.events (held_in l ++ (d ∷ [])) (held_in l') c.raise.new.table c.events-events.ensures (sym pushed.2) (tabled_push n (held_in l) d e.table c.raise.new.table among told c.raise.ensures), tt)
+    record { told = tabled_as n l'.events (held_in l ++ (d ∷ [])) (held_in l') c.raise.new.table c.events-events.ensures (sym pushed.2) (tabled_push n (held_in l) d e.table c.raise.new.table among told c.raise.ensures) }

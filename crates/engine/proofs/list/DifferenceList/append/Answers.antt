@@ -11,14 +11,19 @@ room m xs long few short = omega (arith, length-take-le m xs (omega arith))
 pub bounds-self-self : goal.bounds-self-self
 bounds-self-self c = let l = c.args.self.now in room l.count l.entries l.sized l.few c.requires.2
 
-pub invariant-of-self : goal.invariant-of-self
-invariant-of-self c =
+pub invariant_of-self : goal.invariant_of-self
+invariant_of-self c =
     let l = c.args.self.now in
     let d = c.args.difference in
     let lt = room l.count l.entries l.sized l.few c.requires.2 in
     let long : l.count < length l.entries = omega (arith, l.sized) in
     let more = take_more_set l.entries l.count d long in
-    (l.ranged, (omega arith, (length-set l.entries l.count d ∙ l.sized, (subst (Lawful l.events) (sym more) (lawful_push l.events (take l.count l.entries) d l.lawful c.requires.0 c.requires.1), tt))))
+    record {
+      ranged = l.ranged;
+      few = omega arith;
+      sized = length-set l.entries l.count d ∙ l.sized;
+      lawful = subst (Lawful l.events) (sym more) (lawful_push l.events (take l.count l.entries) d l.lawful c.requires.0 c.requires.1);
+    }
 
 pub returns : goal.returns
 returns c =

@@ -2,11 +2,16 @@ use Rattle.std.proofs.Common.{◌≡◌, ◌-◌, ◌≤◌, length, get_or, ref
 use Rattle.engine.proofs.Fronts.{no_difference, lawful_take, front_last}
 use Rattle.engine.proofs.list.DifferenceList.shorten.Goals as goal
 
-pub invariant-of-self : goal.invariant-of-self
-invariant-of-self c =
+pub invariant_of-self : goal.invariant_of-self
+invariant_of-self c =
     let l = c.args.self.now in
     let less : l.count - 1 ≤ l.count = omega arith in
-    (l.ranged, (omega (arith, l.few), (l.sized, (lawful_take l.events (l.count - 1) l.count l.entries less l.lawful, tt))))
+    record {
+      ranged = l.ranged;
+      few = omega (arith, l.few);
+      sized = l.sized;
+      lawful = lawful_take l.events (l.count - 1) l.count l.entries less l.lawful;
+    }
 
 pub returns : goal.returns
 returns c =

@@ -8,9 +8,9 @@ pub returns-in-Ok : goal.returns-in-Ok
 returns-in-Ok c =
     let all = MatchResult-at_ok _ _ _ c.in-Ok.is c.requires in
     record {
-      accepted = accepted c.args.input.now (Ok c.listing-in.result) all;
-      refused = stopped c.args.input.now (Ok c.listing-in.result) all;
-      content = c.listing-in.ensures;
+      accepted = accepted c.args.input.now (Ok c.listing_in.result) all;
+      refused = stopped c.args.input.now (Ok c.listing_in.result) all;
+      content = c.listing_in.ensures;
     }
 
 pub returns-in-Err : goal.returns-in-Err

@@ -6,6 +6,6 @@ use Rattle.listing.proofs.content.reading.places_in.Goals as goal
 
 pub loop-p-preserved : goal.loop-p-preserved
 loop-p-preserved c = (
-  length-set c.loop-p.places c.loop-p.p c.place-at.result ∙ c.loop-p.invariant.0,
-  filled_more (PlaceIn c.args.input.now) c.loop-p.places c.loop-p.p c.place-at.result no_place (omega arith) c.loop-p.invariant.1 c.place-at.ensures,
+  length-set c.loop-p.places c.loop-p.p c.place_at.result ∙ c.loop-p.invariant.0,
+  filled_more (PlaceIn c.args.input.now) c.loop-p.places c.loop-p.p c.place_at.result no_place (omega arith) c.loop-p.invariant.1 c.place_at.ensures,
 )

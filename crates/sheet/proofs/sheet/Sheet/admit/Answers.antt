@@ -14,37 +14,37 @@ starts l none = all_apart (yard l) (drawn (yard l) l.shaped).trains_placed none
 lawful : (l : Listing) → NoCircles (yard l) → Each (yard l).places (λ p. SharesStart (yard l) p → ⊥) → ConflictsFew (yard l) → Lawful (yard l)
 lawful l circles none few = record { no_circles = circles; starts_apart = starts l none; conflicts_few = few }
 
-pub returns-then-conflict-count-gt-MOST-CONFLICTS : goal.returns-then-conflict-count-gt-MOST-CONFLICTS
-returns-then-conflict-count-gt-MOST-CONFLICTS c =
+pub returns-then-conflict_count-gt-MOST_CONFLICTS : goal.returns-then-conflict_count-gt-MOST_CONFLICTS
+returns-then-conflict_count-gt-MOST_CONFLICTS c =
     let l = c.args.listing in
-    let searched = c.in-ok-train.ensures in
+    let searched = c.in_ok-train.ensures in
     record {
       answer = (
-        MatchOption-at_none (NoCircles (yard l)) (FirstCircle (yard l)) c.in-default.is searched.2,
-        starts l c.in-default-first-shared-start.ensures,
-        omega (arith, c.conflict-count.ensures),
+        MatchOption-at_none (NoCircles (yard l)) (FirstCircle (yard l)) c.in_default.is searched.2,
+        starts l c.in_default-first_shared_start.ensures,
+        omega (arith, c.conflict_count.ensures),
       );
       marks = searched.1;
     }
 
-pub invariant-of-result : goal.invariant-of-result
-invariant-of-result c =
+pub invariant_of-result : goal.invariant_of-result
+invariant_of-result c =
     let l = c.args.listing in
-    let searched = c.in-ok-train.ensures in (
-      ∣ lawful l (MatchOption-at_none (NoCircles (yard l)) (FirstCircle (yard l)) c.in-default.is searched.2) c.in-default-first-shared-start.ensures
-          (omega (arith, c.conflict-count.ensures)) ∣₁,
-      tt,
-    )
+    let searched = c.in_ok-train.ensures in
+    record {
+      lawful = ∣ lawful l (MatchOption-at_none (NoCircles (yard l)) (FirstCircle (yard l)) c.in_default.is searched.2) c.in_default-first_shared_start.ensures
+          (omega (arith, c.conflict_count.ensures)) ∣₁;
+    }
 
 pub returns : goal.returns
 returns c =
     let l = c.args.listing in
-    let searched = c.in-ok-train.ensures in
+    let searched = c.in_ok-train.ensures in
     record {
       answer = (
         refl,
-        lawful l (MatchOption-at_none (NoCircles (yard l)) (FirstCircle (yard l)) c.in-default.is searched.2) c.in-default-first-shared-start.ensures
-            (omega (arith, c.conflict-count.ensures)),
+        lawful l (MatchOption-at_none (NoCircles (yard l)) (FirstCircle (yard l)) c.in_default.is searched.2) c.in_default-first_shared_start.ensures
+            (omega (arith, c.conflict_count.ensures)),
       );
       marks = searched.1;
     }

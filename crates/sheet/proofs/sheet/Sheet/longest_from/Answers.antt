@@ -21,4 +21,4 @@ unreachable-requires c =
     never l m c.args.train u c.of.ensures.content c.of.ensures.train
     ((kept (yard l) c.args.self.now.lawful).no_circles c.args.train c.requires)
     (subst (λ o. MatchOption o (Circular (arcs (yard m) u)) (λ sum. NoCircle (arcs (yard m) u) × Greatest (arcs (yard m) u) (weighs (yard m)) c.args.from sum))
-    c.in-None.is c.in-ok-sum.ensures.3)
+    c.in-None.is c.in_ok-sum.ensures.3)

@@ -3,5 +3,5 @@ use Rattle.sheet.proofs.Agreeing.{lawful_same}
 use Rattle.sheet.proofs.Fresh.{fresh_lawful}
 use Rattle.sheet.proofs.sheet.Sheet.new.Goals as goal
 
-pub invariant-of-result : goal.invariant-of-result
-invariant-of-result c = (∣ lawful_same fresh _ c.smallest.ensures fresh_lawful ∣₁, tt)
+pub invariant_of-result : goal.invariant_of-result
+invariant_of-result c = record { lawful = ∣ lawful_same fresh _ c.smallest.ensures fresh_lawful ∣₁ }
