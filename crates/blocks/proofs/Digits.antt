@@ -48,3 +48,7 @@ pub has_past : (w n k : ℕ) → n < 2 ^ w → w ≤ k → has n k ≡ false
 has_past w n k h l =
     let e : n / 2 ^ k ≡ 0 = div-eq_of_lt (lt_of_lt_of_le h (pow_mono l)) in
     ap (λ x. eqb (x % 2) 1) e
+
+-- so of no set of 64 blocks
+pub past_none : (set block : ℕ) → set < 2 ^ 64 → 64 ≤ block → has set block ≡ false
+past_none set block h l = has_past 64 set block h l

@@ -1,8 +1,8 @@
 -- Two sets share a block exactly if their meet is not zero.
-use Rattle.std.proofs.Common.{◌≡◌, ℕ, zero, suc, ◌^◌, ◌<◌, true, not, T, ap, subst, inl, inr, pow-suc, arith}
+use Rattle.std.proofs.Common.{◌≡◌, ℕ, zero, suc, ◌^◌, ◌<◌, true, not, T, ◌↔◌, eqb, ap, subst, inl, inr, pow-suc, arith}
 use lib.Bits.{bit_and}
 use lib.Count.{count_trailing_zeros}
-use Rattle.std.proofs.lemmas.Bool.{cases_eq, ne_eqb, not-true, eqb-false}
+use Rattle.std.proofs.lemmas.Bool.{cases_eq, ne_eqb, not-true, eqb-false, eqb-true, eq-eqb}
 use Rattle.blocks.specs.Members.{has, Empty, Common, shared}
 use Rattle.blocks.proofs.Digits.{has_on, has_none, has_and, and_has}
 use Rattle.blocks.proofs.Lowering.{found}
@@ -34,3 +34,10 @@ pub common_shared : (s t : ℕ) → Common s t → shared s t ≡ true
 unfolding shared
 common_shared s t c =
     ap not (ne_eqb (bit_and s t) 0 (λ e. zero_empty (bit_and s t) e c.block (and_has s t c.block c.left c.right)))
+
+-- the two tests decide what they are to tell
+pub empty_told : (set : ℕ) → (eqb set 0 ≡ true) ↔ Empty set
+empty_told set = (λ e. zero_empty set (eqb-true _ _ e), λ h. eq-eqb _ _ (empty_zero set h))
+
+pub shared_told : (s t : ℕ) → (shared s t ≡ true) ↔ Common s t
+shared_told s t = (shared_common s t, common_shared s t)

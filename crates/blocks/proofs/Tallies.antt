@@ -1,5 +1,5 @@
 -- The ones of a number are its members, counted.
-use Rattle.std.proofs.Common.{◌≡◌, ℕ, zero, suc, ◌+◌, ◌-◌, ◌/◌, ◌%◌, ◌^◌, ◌<◌, ◌≤◌, Bool, true, false, cond, not, ◌&&◌, eqb, sym, refl, ap, ◌∙◌, ap₂, add-zero, add_assoc, pow-suc, zero-add, add-one, arith, pow_pos}
+use Rattle.std.proofs.Common.{◌≡◌, ℕ, zero, suc, ◌+◌, ◌-◌, ◌/◌, ◌%◌, ◌^◌, ◌<◌, ◌≤◌, Bool, true, false, cond, not, ◌&&◌, eqb, sym, refl, ap, ◌∙◌, ap₂, add-zero, add_assoc, pow-suc, zero-add, arith, pow_pos}
 use lib.Bits.{bit_and, and_shr, and_mod, and_lt}
 use lib.Count.{ones, ones_step, ones-le}
 use Rattle.blocks.specs.Members.{has, tally, lacked}
@@ -68,18 +68,3 @@ lacked_ones s o hs ho =
     ∙ tally_same 64 (has (bit_and s ((2 ^ 64 - 1) - o))) (λ b. has s b && not (has o b)) (λ k l.
     ap (λ x. eqb x 1) (ap (λ x. x % 2) (and_shr s ((2 ^ 64 - 1) - o) k) ∙ and_mod (s / 2 ^ k) (((2 ^ 64 - 1) - o) / 2 ^ k) 1 ∙ ap (bit_and (s / 2 ^ k % 2)) (other_digit 64 o k ho l))
     ∙ both_digits (s / 2 ^ k % 2) (o / 2 ^ k % 2) (omega arith) (omega arith))
-
-pub tally_none : (test : ℕ → Bool) → tally 0 test ≡ 0
-unfolding tally
-tally_none test = refl
-
--- one number more
-pub tally_more : (n : ℕ) (test : ℕ → Bool) → tally (n + 1) test ≡ tally n test + cond (test n) 1 0
-unfolding tally
-tally_more n test = rw add-one
-
-pub tally_in : (n count : ℕ) (test : ℕ → Bool) → count ≡ tally n test → test n ≡ true → count + 1 ≡ tally (n + 1) test
-tally_in n count test e t = sym (tally_more n test ∙ ap₂ (λ x b. x + cond b 1 0) (sym e) t)
-
-pub tally_out : (n count : ℕ) (test : ℕ → Bool) → count ≡ tally n test → test n ≡ false → count ≡ tally (n + 1) test
-tally_out n count test e t = sym (tally_more n test ∙ ap₂ (λ x b. x + cond b 1 0) (sym e) t ∙ add-zero count)

@@ -1,8 +1,11 @@
 // Bytes of sheets, put together from short lists.
+use net::fault::Fault;
+use net::nets::MOST_NODES;
 use sheet::fault::SheetFault;
 use sheet::sheet::Sheet;
 use std::alloc::{AllocError, Global};
 
+// The byte of a move that leads out.
 pub(crate) const OUT: u8 = 255;
 
 // The train and the blocks 0 to 7 of each place, and the moves.
@@ -15,19 +18,13 @@ pub(crate) fn bytes_of(
     let mut bytes = Vec::new(heap);
     bytes.push(trains)?;
     bytes.push((places.len() & 0xff) as u8)?;
-    for (train, _) in places {
-        bytes.push(*train)?;
-    }
+    bytes.extend(places.iter().map(|(train, _)| *train))?;
     for (_, blocks) in places {
         bytes.extend_from_slice(&[0, 0, 0, 0, 0, 0, 0, *blocks])?;
     }
     bytes.push((moves.len() & 0xff) as u8)?;
-    for (from, _) in moves {
-        bytes.push(*from)?;
-    }
-    for (_, to) in moves {
-        bytes.push(*to)?;
-    }
+    bytes.extend(moves.iter().map(|(from, _)| *from))?;
+    bytes.extend(moves.iter().map(|(_, to)| *to))?;
     Ok(bytes)
 }
 
@@ -39,22 +36,17 @@ pub(crate) const CROSSING: [(u8, u8); 4] = [(0, 1), (1, OUT), (2, 3), (3, OUT)];
 // Reads the bytes into a new sheet.
 pub(crate) fn read(bytes: &[u8]) -> Result<Sheet, SheetFault> {
     let mut sheet = Sheet::new();
-    let mut marks = [0; 96];
-    match sheet.read(bytes, &mut marks) {
-        Ok(()) => Ok(sheet),
-        Err(fault) => Err(fault),
-    }
+    let mut marks = [0; MOST_NODES];
+    sheet.read(bytes, &mut marks)?;
+    Ok(sheet)
 }
 
 // Whether the bytes are refused with this number at this place.
 pub(crate) fn refused(bytes: &[u8], number: u8, place: usize) -> bool {
-    match read(bytes) {
-        Ok(_) => false,
-        Err(fault) => {
-            let refusal = fault.refusal();
-            refusal.number == number && refusal.place == place
-        }
-    }
+    read(bytes).is_err_and(|fault| {
+        let refusal = fault.refusal();
+        refusal.number == number && refusal.place == place
+    })
 }
 
 pub(crate) fn accepted(bytes: &[u8]) -> bool {

@@ -14,3 +14,5 @@ mod rules;
 mod sheets;
 #[cfg(test)]
 mod sizes;
+#[cfg(test)]
+mod words;

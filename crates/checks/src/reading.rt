@@ -1,5 +1,6 @@
 // The refusals of the bytes: missing, left over, and too few marks.
 use crate::draft::{CROSSING, FACING, accepted, bytes_of, refused};
+use net::fault::Fault;
 use sheet::sheet::Sheet;
 use std::test::Fail;
 
@@ -27,10 +28,10 @@ fn marks_and_sheet(rt: HostRuntime) -> Result<(), Fail> {
     let bytes = bytes_of(rt.alloc(), 2, &FACING, &CROSSING)?;
     let mut sheet = Sheet::new();
     let mut marks = [7; 97];
-    match sheet.read(&bytes, &mut marks[0..95]) {
-        Ok(()) => return Err(Fail::new("95 marks are too few")),
-        Err(fault) => assert!(rt; fault.refusal().number == 10 && fault.refusal().place == 0),
-    }
+    assert!(rt;
+        sheet.read(&bytes, &mut marks[0..95]).is_err_and(|fault| fault.refusal().number == 10
+            && fault.refusal().place == 0)
+    );
     assert!(rt; marks[0] == 7);
     assert!(rt; sheet.read(&bytes, &mut marks).is_ok());
     assert!(rt; marks[95] == 0 && marks[96] == 7);

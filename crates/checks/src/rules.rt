@@ -30,12 +30,8 @@ fn circles_and_starts(rt: HostRuntime) -> Result<(), Fail> {
 #[test]
 fn conflicts(rt: HostRuntime) -> Result<(), Fail> {
     let mut places = [(0, 1), (1, 2), (0, 8)].to_vec(rt.alloc())?;
-    for _ in 0..25 {
-        places.push((0, 4))?;
-    }
-    for _ in 0..40 {
-        places.push((1, 4))?;
-    }
+    places.extend_from_slice(&[(0, 4); 25])?;
+    places.extend_from_slice(&[(1, 4); 40])?;
     assert!(rt; accepted(&bytes_of(rt.alloc(), 2, &places, &[])?));
     places.push((1, 8))?;
     assert!(rt; refused(&bytes_of(rt.alloc(), 2, &places, &[])?, 8, 0));

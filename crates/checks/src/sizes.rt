@@ -8,9 +8,8 @@ fn crowd(heap: Global, trains: u8, places: u8) -> Result<Vec<u8>, AllocError> {
     let mut bytes = Vec::new(heap);
     bytes.push(trains)?;
     bytes.push(places)?;
-    for place in 0..places {
-        bytes.push(if place < trains { place } else { 0 })?;
-    }
+    bytes.extend((0..places).map(|place| if place < trains { place } else { 0 }))?;
+    // eight bytes a turn
     for place in 0..places {
         let block: u64 = if place < trains { 1 << (place % 64) } else { 1 };
         bytes.extend_from_slice(&block.to_be_bytes())?;

@@ -4,7 +4,7 @@ use engine::engine::DifferenceEngine;
 use std::io;
 use std::time::Instant;
 
-const EVENTS: u32 = 96;
+const EVENTS: usize = 96;
 
 const HELD: usize = 500;
 
@@ -14,8 +14,8 @@ const TURNS: u32 = 2000;
 
 // Holds 500 random precedences, or as many as the tries give.
 fn fill<E: DifferenceEngine>(engine: &mut E, random: &mut Random) {
-    let _ = engine.wipe(EVENTS as usize);
-    for _turn in 0..TRIES {
+    let _ = engine.wipe(EVENTS);
+    for _ in 0..TRIES {
         if engine.held_count() >= HELD {
             return;
         }
@@ -42,7 +42,7 @@ pub(crate) fn measure<E: DifferenceEngine>(
     let held = engine.held_count();
     let start = Instant::now(rt)?;
     let mut calls: u32 = 0;
-    for _turn in 0..TURNS {
+    for _ in 0..TURNS {
         calls = calls.saturating_add(add_and_drop(engine, &mut random));
     }
     let nanos = start.elapsed(rt)?.as_nanos() / u128::from(calls.max(1));

@@ -1,10 +1,11 @@
 // The difference engine with a table of sums.
+ghost use Rattle.std.specs.Prelude.{◌≡◌};
 ghost use Rattle.engine.specs.Lists.{held_in};
 ghost use Rattle.engine.specs.Ways.{ways};
 ghost use Rattle.distances.specs.Tables.{Tabled};
 
 use crate::level::LevelList;
-use crate::table::PLACES;
+use crate::table::Table;
 
 pub mod calls;
 
@@ -12,6 +13,7 @@ pub mod calls;
 #[derive(Drop)]
 pub struct DistanceEngine {
     list: LevelList,
-    table: [Option<i32>; PLACES],
-    ghost told: { Tabled list.differences.events (ways (held_in list.differences)) table },
+    table: Table,
+    ghost sized: { table.events ≡ list.differences.events },
+    ghost told: { Tabled list.differences.events (ways (held_in list.differences)) table.sums },
 }

@@ -4,3 +4,4 @@
 pub mod distance;
 mod level;
 mod table;
+mod way;

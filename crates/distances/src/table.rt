@@ -1,179 +1,121 @@
-// The greatest sums over the walks between every two of n events: a row for each start, n columns to a row.
-ghost use Rattle.std.specs.Prelude.{◌≡◌, ℕ, ◌+◌, ◌*◌, ◌<◌, ◌≤◌, None, slice_index_or};
+// The greatest sums over the walks between every two events.
+ghost use Rattle.std.specs.Prelude.{◌≡◌, ℕ, ◌+◌, ◌*◌, ◌<◌, ◌≤◌, None, length, slice_index_or};
 ghost use Rattle.engine.specs.Circles.{Among, Small};
 ghost use Rattle.engine.specs.Lists.{held_in};
 ghost use Rattle.engine.specs.States.{Ranged};
-ghost use Rattle.engine.specs.Ways.{joined, greater, unheld, raised, ways, higher, peak};
-ghost use Rattle.distances.specs.Tables.{Tabled, entry, Bounded, AllBounded, SmallStep, Rising, RowRaised};
+ghost use Rattle.engine.specs.Ways.{unheld, raised, ways, peak};
+ghost use Rattle.distances.specs.Tables.{Tabled, entry, Bounded, AllBounded, SmallStep, RowRaised};
 
 use crate::level::LevelList;
+use crate::way::{empty_way, greater_of, higher_of, sum_over};
 use engine::difference::{Difference, MOST_EVENTS};
 
 // The places of the largest table.
-pub(crate) const PLACES: usize = MOST_EVENTS * MOST_EVENTS;
+const PLACES: usize = MOST_EVENTS * MOST_EVENTS;
 
-fn position(n: usize, x: usize, y: usize) -> usize
-    requires { (x < n) × (y < n) × (n ≤ 96) }
-    ensures { (result ≡ x * n + y) × (result < 9216) }
-{
-    x * n + y
+// The sums stand in the first places: a row for each start, with a column for each end.
+#[derive(Drop)]
+pub(crate) struct Table {
+    events: usize,
+    sums: [Option<i32>; PLACES],
+    ghost few: { events ≤ 96 },
+    ghost sized: { length sums ≡ 9216 },
 }
 
-// The greatest sum over the walks from `x` to `y`, if there is one.
-pub(crate) fn sum_at(table: &[Option<i32>; PLACES], n: usize, x: usize, y: usize) -> Option<i32>
-    requires { (x < n) × (y < n) × (n ≤ 96) }
-    ensures { result ≡ entry n table.now x y }
-{
-    table[position(n, x, y)]
-}
-
-// The sum over two ways with `k` between them, if there are both.
-fn sum_over(a: Option<i32>, k: i32, b: Option<i32>) -> Option<i32>
-    requires left { Bounded a }
-    requires right { Bounded b }
-    requires between { SmallStep k }
-    ensures { result ≡ joined a k b }
-{
-    let before = a?;
-    let after = b?;
-    Some(before + k + after)
-}
-
-fn greater_of(a: Option<i32>, b: Option<i32>) -> Option<i32>
-    ensures { result ≡ greater a b }
-{
-    match a {
-        None => b,
-        Some(s) => match b {
-            None => a,
-            Some(t) => Some(if s < t { t } else { s }),
-        },
+impl Table {
+    // A table of no events.
+    pub(crate) fn new() -> Table {
+        Table {
+            events: 0,
+            sums: [None; PLACES],
+        }
     }
-}
 
-// The walk of no differences stays where it is.
-fn empty_way(x: usize, y: usize) -> Option<i32>
-    ensures { result ≡ unheld x y }
-{
-    if x == y { Some(0) } else { None }
-}
+    // The greatest sum over the walks from `x` to `y`, if there is one.
+    pub(crate) fn sum(&self, x: usize, y: usize) -> Option<i32>
+        requires { (x < self.now.events) × (y < self.now.events) }
+        ensures { result ≡ entry self.now.events self.now.sums x y }
+    {
+        self.sums[x * self.events + y]
+    }
 
-// Only the walks of no differences.
-fn clear(table: &mut [Option<i32>; PLACES], n: usize)
-    requires { Ranged n }
-    ensures { Tabled n unheld table.new }
-{
-    for p in 0..n * n {
-        table[p] = empty_way(p / n, p % n);
+    // Sets the number of events, between which there are only the walks of no differences.
+    fn clear(&mut self, events: usize)
+        requires { Ranged events }
+        ensures events { self.new.events ≡ events }
+        ensures sums { Tabled events unheld self.new.sums }
+    {
+        self.events = events;
+        for (place, sum) in self.sums[0..events * events].iter_mut().enumerate() {
+            *sum = empty_way(place / events, place % events);
+        }
     }
-}
 
-// The ways into `event`.
-fn column(table: &[Option<i32>; PLACES], n: usize, event: usize) -> [Option<i32>; MOST_EVENTS]
-    requires { (event < n) × (n ≤ 96) }
-    ensures { (x : ℕ) → x < n → slice_index_or result x None ≡ entry n table.now x event }
-{
-    let mut into = [None; MOST_EVENTS];
-    for x in 0..n {
-        into[x] = sum_at(table, n, x, event);
+    // A copy of the ways out of `event`.
+    fn row(&self, event: usize) -> [Option<i32>; MOST_EVENTS]
+        requires { event < self.now.events }
+        ensures { (y : ℕ) → y < self.now.events → slice_index_or result y None ≡ entry self.now.events self.now.sums event y }
+    {
+        let start = event * self.events;
+        let mut out = [None; MOST_EVENTS];
+        out[..self.events].copy_from_slice(&self.sums[start..start + self.events]);
+        out
     }
-    into
-}
 
-// The ways out of `event`.
-fn row(table: &[Option<i32>; PLACES], n: usize, event: usize) -> [Option<i32>; MOST_EVENTS]
-    requires { (event < n) × (n ≤ 96) }
-    ensures { (y : ℕ) → y < n → slice_index_or result y None ≡ entry n table.now event y }
-{
-    let mut out = [None; MOST_EVENTS];
-    for y in 0..n {
-        out[y] = sum_at(table, n, event, y);
+    // One difference more, for the ways from `x`: `into` is the way from there to the difference, `out` are the ways on from it.
+    fn raise_row(&mut self, x: usize, into: Option<i32>, k: i32, out: &[Option<i32>; MOST_EVENTS])
+        requires start { x < self.old.events }
+        requires left { Bounded into }
+        requires right { (y : ℕ) → y < self.old.events → Bounded (slice_index_or out.now y None) }
+        requires between { SmallStep k }
+        ensures events { self.new.events ≡ self.old.events }
+        ensures sums { RowRaised self.old.events x into k out.now self.old.sums self.new.sums }
+    {
+        // most rows have no way to the difference
+        if into.is_none() {
+            return;
+        }
+        let start = x * self.events;
+        for (y, sum) in self.sums[start..start + self.events].iter_mut().enumerate() {
+            *sum = greater_of(*sum, sum_over(into, k, out[y]));
+        }
     }
-    out
-}
 
-// One difference more, for the ways from `x`: `into` is the way from there to the difference, `out` are the ways on from it.
-fn raise_row(
-    table: &mut [Option<i32>; PLACES],
-    n: usize,
-    x: usize,
-    into: Option<i32>,
-    k: i32,
-    out: &[Option<i32>; MOST_EVENTS],
-)
-    requires places { (x < n) × (n ≤ 96) }
-    requires left { Bounded into }
-    requires right { (y : ℕ) → y < n → Bounded (slice_index_or out.now y None) }
-    requires between { SmallStep k }
-    ensures { RowRaised n x into k out.now table.old table.new }
-{
-    // most rows have no way to the difference
-    if into.is_none() {
-        return;
+    // One difference more.
+    pub(crate) fn raise(&mut self, difference: Difference)
+        requires among { Among self.old.events difference }
+        requires small { Small difference }
+        requires bounded { AllBounded self.old.events self.old.sums }
+        ensures events { self.new.events ≡ self.old.events }
+        ensures sums { Tabled self.old.events (raised (entry self.old.events self.old.sums) difference) self.new.sums }
+    {
+        // a copy, since the row changes when its turn comes
+        let out = self.row(difference.to);
+        // a loop and no chain, since each row is read and then written
+        for x in 0..self.events {
+            let into = self.sum(x, difference.from);
+            self.raise_row(x, into, difference.k, &out);
+        }
     }
-    for y in 0..n {
-        let place = position(n, x, y);
-        table[place] = greater_of(table[place], sum_over(into, k, out[y]));
-    }
-}
 
-// One difference more.
-pub(crate) fn raise(table: &mut [Option<i32>; PLACES], n: usize, difference: Difference)
-    requires events { n ≤ 96 }
-    requires among { Among n difference }
-    requires small { Small difference }
-    requires bounded { AllBounded n table.old }
-    ensures { Tabled n (raised (entry n table.old) difference) table.new }
-{
-    // copies, since the rows change while they are read
-    let into = column(table, n, difference.from);
-    let out = row(table, n, difference.to);
-    for x in 0..n {
-        raise_row(table, n, x, into[x], difference.k, &out);
+    // The table of a list.
+    pub(crate) fn rebuild(&mut self, list: &LevelList)
+        ensures events { self.new.events ≡ list.now.differences.events }
+        ensures sums { Tabled list.now.differences.events (ways (held_in list.now.differences)) self.new.sums }
+    {
+        self.clear(list.differences.events());
+        for difference in list.differences.held() {
+            self.raise(*difference);
+        }
     }
-}
 
-// The table of a list.
-pub(crate) fn rebuild(table: &mut [Option<i32>; PLACES], list: &LevelList)
-    ensures { Tabled list.now.differences.events (ways (held_in list.now.differences)) table.new }
-{
-    let n = list.differences.events();
-    clear(table, n);
-    let held = list.differences.held();
-    for difference in held {
-        raise(table, n, *difference);
+    // The greatest of 0 and the ways into `event`.
+    pub(crate) fn highest(&self, event: usize) -> i32
+        requires { event < self.now.events }
+        ensures { result ≡ peak (λ x. entry self.now.events self.now.sums x event) self.now.events }
+    {
+        (0..self.events)
+            .map(|x| self.sum(x, event))
+            .fold(0, higher_of)
     }
-}
-
-// Whether the way back and `k` together rise above zero.
-pub(crate) fn rises(way: Option<i32>, k: i32) -> bool
-    requires bounded { Bounded way }
-    requires small { SmallStep k }
-    ensures { Rising k way result }
-{
-    match way {
-        None => false,
-        Some(sum) => sum + k > 0,
-    }
-}
-
-fn higher_of(best: i32, way: Option<i32>) -> i32
-    ensures { result ≡ higher best way }
-{
-    match way {
-        None => best,
-        Some(sum) => if best < sum { sum } else { best },
-    }
-}
-
-// The greatest of 0 and the ways into `event`.
-pub(crate) fn highest(table: &[Option<i32>; PLACES], n: usize, event: usize) -> i32
-    requires { (event < n) × (n ≤ 96) }
-    ensures { result ≡ peak (λ x. entry n table.now x event) n }
-{
-    let mut best = 0;
-    for x in 0..n {
-        best = higher_of(best, sum_at(table, n, x, event));
-    }
-    best
 }

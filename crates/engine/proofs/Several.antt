@@ -1,8 +1,8 @@
 -- Several differences added in order, and dropped again.
-use Rattle.std.proofs.Common.{◌≡◌, ℕ, ◌+◌, ◌<◌, ◌≤◌, List, [], ◌∷◌, ◌++◌, length, get_or, take, Ok, Err, Result, sym, refl, ap, ◌∙◌, subst, inr, arith}
-use Rattle.std.proofs.lemmas.List.{append-nil, append_assoc, length_push, take_more, take_all, take_at, take-append-le, get_or_default}
+use Rattle.std.proofs.Common.{◌≡◌, ℕ, ◌+◌, ◌<◌, ◌≤◌, List, [], ◌∷◌, ◌++◌, length, get_or, take, Err, sym, refl, ap, ◌∙◌, subst, inr}
+use Rattle.std.proofs.lemmas.List.{append_assoc, take_more, take_all, take_at, get_or_default}
 use Rattle.engine.specs.Circles.{In, Among, Small, NoRisingCircle}
-use Rattle.engine.specs.States.{State, Sound, Same, Refused, Taken, Dropped}
+use Rattle.engine.specs.States.{State, Sound, Same, Refused, Taken}
 use Rattle.engine.specs.Together.{Acceptable, AllTaken, AddedInOrder}
 use Rattle.engine.specs.declared.difference.Difference.{Difference}
 use Rattle.engine.specs.declared.fault.EngineFault.{EngineFault}
@@ -15,9 +15,6 @@ in_end (x ∷ xs) ys d h = inr (in_end xs ys d h)
 pub record Reached (more : List Difference) (i : ℕ) (s s' : State) : Type 0 where
   pub events : s'.events ≡ s.events
   pub held : s'.held ≡ s.held ++ take i more
-
-pub reached_none : (more : List Difference) (s : State) → Reached more 0 s s
-reached_none more s = record { events = refl; held = sym (append-nil s.held) }
 
 module _ (more : List Difference) (i : ℕ) (s s' : State) (sound : Sound s') (r : Reached more i s s') where
   acceptable : Acceptable s.events s.held (take i more)
@@ -60,29 +57,3 @@ module _ (more : List Difference) (i : ℕ) (s s' : State) (sound : Sound s') (r
 pub record Shortened (count : ℕ) (s s' : State) : Type 0 where
   pub events : s'.events ≡ s.events
   pub front : take count s'.held ≡ take count s.held
-
-pub shortened_none : (count : ℕ) (s : State) → Shortened count s s
-shortened_none count s = record { events = refl; front = refl }
-
--- one difference less
-pub record Less (s s' : State) : Type 0 where
-  pub events : s'.events ≡ s.events
-  pub gone : Difference
-  pub held : s.held ≡ s'.held ++ (gone ∷ [])
-
--- where one is held, the newest can be dropped
-pub dropped_less : {U : Type 0} (s s' : State) (r : Result U EngineFault) → 0 < length s.held → Dropped s s' r → Less s s'
-dropped_less s s' (Ok u) some h = record { events = h.0; gone = h.1.0; held = h.1.1 }
-dropped_less s s' (Err f) some h = absurd (omega (arith, ap length h.1))
-
-pub less_length : (s s' : State) → Less s s' → length s.held ≡ length s'.held + 1
-less_length s s' l = ap length l.held ∙ length_push s'.held l.gone
-
-pub shortened_more : (count : ℕ) (s s' s'' : State) → Shortened count s s' → count < length s'.held → Less s' s'' → Shortened count s s''
-shortened_more count s s' s'' h low l =
-    let room : count ≤ length s''.held = omega (arith, less_length s' s'' l) in
-    let same : take count s'.held ≡ take count s''.held = ap (take count) l.held ∙ take-append-le count s''.held (l.gone ∷ []) room in
-    record { events = l.events ∙ h.events; front = sym same ∙ h.front }
-
-pub shortened_all : (count : ℕ) (s s' : State) → Shortened count s s' → length s'.held ≤ count → s'.held ≡ take count s.held
-shortened_all count s s' h end = sym (take_all count s'.held end) ∙ h.front

@@ -1,5 +1,6 @@
 -- What a difference list holds.
-use Rattle.std.specs.Prelude.{◌≡◌, ℕ, List, [], ◌∷◌, ◌++◌, length, take, Ok, Err, Result}
+use Rattle.std.specs.Prelude.{◌≡◌, ℕ, List, [], ◌∷◌, ◌++◌, length, Ok, Err, Result}
+use Rattle.bounded.specs.Items.{items}
 use Rattle.engine.specs.States.{Ranged, Barred, Admitted}
 use Rattle.engine.specs.declared.difference.Difference.{Difference}
 use Rattle.engine.specs.declared.list.DifferenceList.{DifferenceList}
@@ -8,7 +9,7 @@ use Rattle.engine.specs.declared.fault.EngineFault.TheVariants.{EventOutOfRange,
 
 -- the held differences, the newest last
 abbrev pub held_in : DifferenceList → List Difference
-held_in l = take l.count l.entries
+held_in l = items l.entries
 
 -- wiped to n events, or as before because no engine has n events
 abbrev pub ListWiped : ℕ → DifferenceList → DifferenceList → {U : Type 0} → Result U EngineFault → Type 0

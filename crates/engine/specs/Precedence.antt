@@ -1,5 +1,5 @@
 -- The precedence net of a list of differences: each is an arc.
-use Rattle.std.specs.Prelude.{◌≡◌, ℕ, Bool, false, ◌&&◌, ◌||◌, List, [], ◌∷◌, ℤ, pos, ◌==◌}
+use Rattle.std.specs.Prelude.{◌≡◌, ℕ, zero, suc, Bool, false, ◌&&◌, ◌||◌, List, [], ◌∷◌, ℤ, pos, ◌==◌}
 use Rattle.engine.specs.Circles.{In}
 use Rattle.engine.specs.declared.difference.Difference.{Difference}
 
@@ -13,6 +13,12 @@ pub record Leads (ds : List Difference) (a b : ℕ) : Type 0 where
 -- the one difference leads from a to b, as a test
 abbrev pub joins : Difference → ℕ → ℕ → Bool
 joins d a b = d.from == a && d.to == b
+
+-- so does the one at a place of the list
+abbrev pub joins_at : List Difference → ℕ → ℕ → ℕ → Bool
+joins_at [] place a b = false
+joins_at (d ∷ ds) zero a b = joins d a b
+joins_at (d ∷ ds) (suc place) a b = joins_at ds place a b
 
 -- some difference of the list does, as a test; its law is that it decides Leads
 unfoldable pub precedes : List Difference → ℕ → ℕ → Bool

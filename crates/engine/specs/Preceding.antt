@@ -1,5 +1,5 @@
 -- The laws of precedence nets.
-use Rattle.std.specs.Prelude.{◌≡◌, ℕ, ◌<◌, true, ◌⊎◌, List, [], ◌∷◌, pos, negsuc, ◌≤ℤ◌, ◌==◌, refl}
+use Rattle.std.specs.Prelude.{◌≡◌, ℕ, ◌<◌, true, ◌↔◌, ◌⊎◌, List, [], ◌∷◌, pos, negsuc, ◌≤ℤ◌, ◌==◌, refl}
 use Rattle.std.proofs.Common.{sym, subst, ◌∙◌, ap, inl, inr, arith}
 use Rattle.std.proofs.lemmas.Int.{ints}
 use Rattle.std.proofs.lemmas.Bool.{and_parts, and_from, or_cases, or_left, or_right, eqb-true, eq-eqb, false≢true}
@@ -31,6 +31,9 @@ in_precedes (x ∷ ds) d (inr h) = or_right (joins x d.from d.to) _ (in_precedes
 pub leads_precedes : (ds : List Difference) (a b : ℕ) → Leads ds a b → precedes ds a b ≡ true
 leads_precedes ds a b l =
     ap (λ z. precedes ds z b) (sym l.start) ∙ ap (λ z. precedes ds l.difference.from z) (sym l.end) ∙ in_precedes ds l.difference l.held
+
+pub precedes_told : (ds : List Difference) (a b : ℕ) → (precedes ds a b ≡ true) ↔ Leads ds a b
+precedes_told ds a b = (precedes_leads ds a b, leads_precedes ds a b)
 
 -- arcs lead between the events of lawful differences
 pub precedes_inside : (n : ℕ) (ds : List Difference) → Lawful n ds → (a b : ℕ) → precedes ds a b ≡ true → (a < n) × (b < n)

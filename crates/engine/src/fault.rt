@@ -1,8 +1,12 @@
 // Why an engine refuses.
 ghost use Rattle.std.specs.Prelude.{◌≡◌};
-ghost use Rattle.engine.specs.Refusals.{told};
+ghost use Rattle.engine.specs.declared.fault.EngineFault.TheVariants as faults;
+ghost use Rattle.engine.specs.Refusals.{told as told_engine};
 
-use net::fault::{Layer, Refusal};
+use bounded::list::Full;
+use net::fault::{Fault, Layer, Refusal};
+use std::error::Error;
+use std::fmt;
 
 #[derive(Clone, Copy, Debug, PartialEq, Eq)]
 pub enum EngineFault {
@@ -18,10 +22,18 @@ pub enum EngineFault {
     NoneHeld,
 }
 
-impl EngineFault {
-    pub fn refusal(&self) -> Refusal
-        ensures { result ≡ told self.now }
-    {
+impl From<Full> for EngineFault {
+    ghost from_gives = { λ _ r. r ≡ faults.Full };
+
+    fn from(_cause: Full) -> Self {
+        Self::Full
+    }
+}
+
+impl Fault for EngineFault {
+    ghost told = { told_engine };
+
+    fn refusal(&self) -> Refusal {
         let number = match self {
             EngineFault::EventOutOfRange => 20,
             EngineFault::KOutOfRange => 21,
@@ -36,3 +48,18 @@ impl EngineFault {
         }
     }
 }
+
+impl fmt::Display for EngineFault {
+    fn fmt<W: fmt::Write>(&self, f: &mut fmt::Formatter<W>) -> fmt::Result {
+        f.write_str(match self {
+            EngineFault::EventOutOfRange =>
+                "there is no such event, or no engine has that number of events",
+            EngineFault::KOutOfRange => "k is not from -1000 to 1000",
+            EngineFault::Full => "1100 differences are held",
+            EngineFault::RisingCircle => "a circle would sum above zero",
+            EngineFault::NoneHeld => "no such difference is held",
+        })
+    }
+}
+
+impl Error for EngineFault {}

@@ -1,65 +1,52 @@
 // What holds of differences and of every engine: each function's contract is a theorem, and the crate is not proved without it.
+// There is nothing to compute, and each theorem has a function by its name.
 ghost use Rattle.engine.specs.Laws.{PartsHaveNoRisingCircle, OrderDoesNotMatter, NewestClosesNoRisingCircle, NumbersExcludeRisingCircles, LevelExactlyIfNumbersMeet, WalksShorten, AcceptsExactlyWithoutRisingCircle, OneAnswer, Worked};
 
 // Where no circle rises, none rises among some of the differences.
-pub fn parts_have_no_rising_circle() -> u8
+pub fn parts_have_no_rising_circle()
     ensures { PartsHaveNoRisingCircle }
-{
-    0
-}
+{}
 
 // Whether a circle rises depends on the differences alone, not on their order.
-pub fn order_does_not_matter() -> u8
+#[tactic(auto, using(crate::proofs::Theorems::order))]
+pub fn order_does_not_matter()
     ensures { OrderDoesNotMatter }
-{
-    0
-}
+{}
 
 // No circle rises with one difference more exactly if none rose before and none rises through it.
-pub fn newest_closes_no_rising_circle() -> u8
+pub fn newest_closes_no_rising_circle()
     ensures { NewestClosesNoRisingCircle }
-{
-    0
-}
+{}
 
 // Numbers that meet every difference leave no circle that rises.
-pub fn numbers_exclude_rising_circles() -> u8
+pub fn numbers_exclude_rising_circles()
     ensures { NumbersExcludeRisingCircles }
-{
-    0
-}
+{}
 
 // No circle rises exactly if some numbers meet every difference.
-pub fn level_exactly_if_numbers_meet() -> u8
+#[tactic(auto, using(crate::proofs::Theorems::level))]
+pub fn level_exactly_if_numbers_meet()
     ensures { LevelExactlyIfNumbersMeet }
-{
-    0
-}
+{}
 
 // Where no circle rises, walks need not visit an event twice.
-pub fn walks_shorten() -> u8
+#[tactic(auto, using(crate::proofs::Theorems::shortens))]
+pub fn walks_shorten()
     ensures { WalksShorten }
-{
-    0
-}
+{}
 
 // An engine refuses a lawful difference that it has room for only because of a rising circle.
-pub fn accepts_exactly_without_rising_circle() -> u8
+pub fn accepts_exactly_without_rising_circle()
     ensures { AcceptsExactlyWithoutRisingCircle }
-{
-    0
-}
+{}
 
 // Two engines with the same events and held differences answer alike.
-pub fn one_answer() -> u8
+pub fn one_answer()
     ensures { OneAnswer }
-{
-    0
-}
+{}
 
 // Four small lists, with and without a rising circle.
-pub fn worked_examples() -> u8
+#[tactic(auto, using(crate::proofs::Theorems::worked))]
+pub fn worked_examples()
     ensures { Worked }
-{
-    0
-}
+{}

@@ -1,7 +1,7 @@
 // The precedence net of an engine.
 ghost use Rattle.std.specs.Prelude.{◌≡◌, ℕ, true, ◌↔◌};
 ghost use Rattle.net.specs.Answers.{Measured};
-ghost use Rattle.engine.specs.Precedence.{Leads, precedes, one_each};
+ghost use Rattle.engine.specs.Precedence.{Leads, joins_at as joined_at, precedes, one_each};
 ghost use Rattle.engine.specs.Preceding.{precedes_inside, one_limited};
 
 use crate::engine::DifferenceEngine;
@@ -20,33 +20,28 @@ pub struct PrecedenceNet<'a, E: DifferenceEngine> {
 
 impl<'a, E: DifferenceEngine> PrecedenceNet<'a, E> {
     // The net of what the engine holds.
+    #[tactic(auto, using(crate::specs::Preceding::precedes_told))]
     pub fn of(engine: &'a E) -> PrecedenceNet<'a, E>
         ensures content { result.engine.now ≡ engine.now }
         ensures arcs { (a b : ℕ) → (precedes (E.DifferenceEngine.state result.engine.now).held a b ≡ true) ↔ Leads (E.DifferenceEngine.state engine.now).held a b }
     {
-        view(engine)
+        PrecedenceNet { engine }
     }
-}
 
-fn view<'a, E: DifferenceEngine>(engine: &'a E) -> PrecedenceNet<'a, E>
-    ensures content { result.engine.now ≡ engine.now }
-    ensures arcs { (a b : ℕ) → (precedes (E.DifferenceEngine.state result.engine.now).held a b ≡ true) ↔ Leads (E.DifferenceEngine.state engine.now).held a b }
-{
-    PrecedenceNet { engine }
-}
-
-// Whether a held difference leads from the one event to the other.
-fn leads<E: DifferenceEngine>(engine: &E, from: usize, to: usize) -> bool
-    ensures { result ≡ precedes (E.DifferenceEngine.state engine.now).held from to }
-{
-    for place in 0..engine.held_count() {
-        if let Ok(difference) = engine.held_at(place) {
-            if difference.from == from && difference.to == to {
-                return true;
-            }
-        }
+    // Whether the held difference at a place leads from the one event to the other.
+    fn joins_at(&self, place: usize, from: usize, to: usize) -> bool
+        ensures { result ≡ joined_at (E.DifferenceEngine.state self.now.engine.now).held place from to }
+    {
+        self.engine.held_at(place).is_ok_and(|difference| difference.from == from
+            && difference.to == to)
     }
-    false
+
+    // Whether a held difference leads from the one event to the other.
+    fn leads(&self, from: usize, to: usize) -> bool
+        ensures { result ≡ precedes (E.DifferenceEngine.state self.now.engine.now).held from to }
+    {
+        (0..self.engine.held_count()).any(|place| self.joins_at(place, from, to))
+    }
 }
 
 impl<E: DifferenceEngine> Net for PrecedenceNet<'_, E> {
@@ -63,7 +58,7 @@ impl<E: DifferenceEngine> Net for PrecedenceNet<'_, E> {
     }
 
     fn has_arc(&self, from: usize, to: usize) -> bool {
-        leads(self.engine, from, to)
+        self.leads(from, to)
     }
 }
 

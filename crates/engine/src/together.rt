@@ -24,6 +24,7 @@ fn shorten_to<E: DifferenceEngine>(engine: &mut E, count: usize)
     ensures events { (E.DifferenceEngine.state engine.new).events ≡ (E.DifferenceEngine.state engine.old).events }
     ensures held { (E.DifferenceEngine.state engine.new).held ≡ take count (E.DifferenceEngine.state engine.old).held }
 {
+    // no number is kept here: the engine is asked
     while engine.held_count() > count {
         let _ = engine.drop_newest();
     }

@@ -1,18 +1,21 @@
 // What the tests of both makes share.
 use engine::difference::Difference;
 use engine::engine::DifferenceEngine;
-use engine::fault::EngineFault;
+use net::fault::Fault;
 
-// 0 for an accepted difference, else the number of the refusal.
-pub(crate) fn add<E: DifferenceEngine>(engine: &mut E, from: usize, to: usize, k: i32) -> u8 {
-    number_of(engine.add(Difference { from, to, k }))
+// The number of a refusal, or none where the call was accepted.
+pub(crate) fn refusal_number<F: Fault + Drop>(answer: Result<(), F>) -> Option<u8> {
+    answer.err().map(|fault| fault.refusal().number)
 }
 
-pub(crate) fn number_of(answer: Result<(), EngineFault>) -> u8 {
-    match answer {
-        Ok(()) => 0,
-        Err(fault) => fault.refusal().number,
-    }
+// The same for one difference more.
+pub(crate) fn add<E: DifferenceEngine>(
+    engine: &mut E,
+    from: usize,
+    to: usize,
+    k: i32,
+) -> Option<u8> {
+    refusal_number(engine.add(Difference { from, to, k }))
 }
 
 // The difference of two numbers, or none where there is no such event.

@@ -1,5 +1,5 @@
 // Small lists of differences, with and without a rising circle.
-use crate::both::{add, number_of};
+use crate::both::{add, refusal_number};
 use distances::distance::DistanceEngine;
 use engine::difference::Difference;
 use engine::engine::DifferenceEngine;
@@ -9,12 +9,12 @@ use std::process::Abort;
 
 // A circle of two that sums to 0 is accepted, one that sums to 1 is refused, and so are circles of one.
 fn circles<E: DifferenceEngine>(rt: &impl Abort, engine: &mut E) {
-    assert_eq!(rt; number_of(engine.wipe(3)), 0);
-    assert_eq!(rt; add(engine, 0, 1, 1), 0);
-    assert_eq!(rt; add(engine, 1, 0, 0), 23);
-    assert_eq!(rt; add(engine, 1, 0, -1), 0);
-    assert_eq!(rt; add(engine, 2, 2, 0), 0);
-    assert_eq!(rt; add(engine, 2, 2, 1), 23);
+    assert_eq!(rt; refusal_number(engine.wipe(3)), None);
+    assert_eq!(rt; add(engine, 0, 1, 1), None);
+    assert_eq!(rt; add(engine, 1, 0, 0), Some(23));
+    assert_eq!(rt; add(engine, 1, 0, -1), None);
+    assert_eq!(rt; add(engine, 2, 2, 0), None);
+    assert_eq!(rt; add(engine, 2, 2, 1), Some(23));
     assert_eq!(rt; engine.held_count(), 3);
 }
 
@@ -48,11 +48,11 @@ const ROW: [Difference; 3] = [
 
 // The first two of the row are accepted, and all three are not: then none is held.
 fn all_or_none<E: DifferenceEngine>(rt: &impl Abort, engine: &mut E) {
-    assert_eq!(rt; number_of(engine.wipe(3)), 0);
-    assert_eq!(rt; number_of(add_all(engine, &ROW[0..2])), 0);
+    assert_eq!(rt; refusal_number(engine.wipe(3)), None);
+    assert_eq!(rt; refusal_number(add_all(engine, &ROW[0..2])), None);
     assert_eq!(rt; engine.held_count(), 2);
-    assert_eq!(rt; number_of(engine.wipe(3)), 0);
-    assert_eq!(rt; number_of(add_all(engine, &ROW)), 23);
+    assert_eq!(rt; refusal_number(engine.wipe(3)), None);
+    assert_eq!(rt; refusal_number(add_all(engine, &ROW)), Some(23));
     assert_eq!(rt; engine.held_count(), 0);
 }
 

@@ -1,5 +1,5 @@
 // The precedence net of an engine.
-use crate::both::{add, number_of};
+use crate::both::{add, refusal_number};
 use distances::distance::DistanceEngine;
 use engine::engine::DifferenceEngine;
 use engine::precedence::longest_precedence;
@@ -10,13 +10,13 @@ use std::process::Abort;
 // The longest way counts differences, whatever their k; a circle that sums to zero is a circle of the net.
 fn longest<E: DifferenceEngine>(rt: &impl Abort, engine: &mut E) {
     let mut marks = [7; 97];
-    assert_eq!(rt; number_of(engine.wipe(4)), 0);
-    assert_eq!(rt; add(engine, 0, 1, -9), 0);
-    assert_eq!(rt; add(engine, 1, 2, 5), 0);
-    assert_eq!(rt; add(engine, 0, 2, 1), 0);
+    assert_eq!(rt; refusal_number(engine.wipe(4)), None);
+    assert_eq!(rt; add(engine, 0, 1, -9), None);
+    assert_eq!(rt; add(engine, 1, 2, 5), None);
+    assert_eq!(rt; add(engine, 0, 2, 1), None);
     assert_eq!(rt; longest_precedence(engine, &mut marks, 0), Ok(Some(2)));
     assert_eq!(rt; longest_precedence(engine, &mut marks, 3), Ok(Some(0)));
-    assert_eq!(rt; add(engine, 2, 1, -5), 0);
+    assert_eq!(rt; add(engine, 2, 1, -5), None);
     assert_eq!(rt; longest_precedence(engine, &mut marks, 3), Ok(None));
     assert!(rt; marks[0] == 0 && marks[95] == 0 && marks[96] == 7);
 }
@@ -34,12 +34,13 @@ fn refusals<E: DifferenceEngine>(rt: &impl Abort, engine: &E) {
     assert_eq!(rt; marks[0], 7);
 }
 
+fn precedence<E: DifferenceEngine>(rt: &impl Abort, engine: &mut E) {
+    longest(rt, engine);
+    refusals(rt, engine);
+}
+
 #[test]
 fn precedence_with_both(rt: HostRuntime) {
-    let mut potential = PotentialEngine::new();
-    longest(&rt, &mut potential);
-    refusals(&rt, &potential);
-    let mut distance = DistanceEngine::new();
-    longest(&rt, &mut distance);
-    refusals(&rt, &distance);
+    precedence(&rt, &mut PotentialEngine::new());
+    precedence(&rt, &mut DistanceEngine::new());
 }

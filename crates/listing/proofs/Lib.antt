@@ -1,7 +1,7 @@
 pub mod Drawn
 pub mod Scanned
 pub mod Ordered
-pub mod Filled
+pub mod Listed
 pub mod Tabled
 pub mod Moving
 pub mod Agreeing

@@ -1,5 +1,5 @@
 -- The lowest number that passes a test, whether one passes, and sums.
-use Rattle.std.proofs.Common.{◌≡◌, ℕ, zero, suc, ◌+◌, ◌<◌, Bool, true, false, ◌||◌, ltb, ◌⊎◌, refl, ap, ◌∙◌, subst, ap₂, inl, inr, add-one, arith, ltb-true, le-ltb, lt-ltb}
+use Rattle.std.proofs.Common.{◌≡◌, ℕ, zero, suc, ◌<◌, Bool, true, false, ◌||◌, ltb, ◌⊎◌, ◌↔◌, refl, ap, ◌∙◌, subst, ap₂, inl, inr, arith, ltb-true, le-ltb, lt-ltb}
 use native.Mathlib.Decide.{ℕ_discrete, dec_lt}
 use Rattle.std.proofs.lemmas.Bool.{or_left, or_right, or_cases, both_ways}
 use Rattle.listing.specs.Scans.{Each, First, lowest, any, summed}
@@ -62,9 +62,6 @@ lowest_same (suc n) a c h =
     let k : a n ≡ c n = h n (omega arith) in
     rw (e, k)
 
-pub summed_more : (n : ℕ) (f : ℕ → ℕ) → summed (n + 1) f ≡ summed n f + f n
-summed_more n f = rw add-one
-
 pub summed_same : (n : ℕ) (f g : ℕ → ℕ) → Each n (λ i. f i ≡ g i) → summed n f ≡ summed n g
 summed_same zero f g h = refl
 summed_same (suc n) f g h =
@@ -98,9 +95,6 @@ first_or_all (suc n) passes fails at = elim (first_or_all n passes fails at) [
   | inr w ↦ inr (w.0, record { at = w.1.at; below = let h = w.1.below in omega arith; fault = w.1.fault; earlier = w.1.earlier })
 ]
 
-pub any_more : (n : ℕ) (test : ℕ → Bool) → any (n + 1) test ≡ (any n test || test n)
-any_more n test = rw add-one
-
 pub any_here : (n : ℕ) (test : ℕ → Bool) (i : ℕ) → i < n → test i ≡ true → any n test ≡ true
 any_here zero test i h t = absurd (omega arith)
 any_here (suc n) test i h t = elim (ℕ_discrete n i) [
@@ -115,6 +109,13 @@ any_found (suc n) test e = elim (or_cases (any n test) (test n) e) [
   | inl a ↦ (let w = any_found n test a in (w.0, omega (arith, w.1), w.2))
   | inr t ↦ (n, omega arith, t)
 ]
+
+-- the lowest is below n where one passes
+pub any_lowest : (n : ℕ) (test : ℕ → Bool) → (any n test ≡ true) ↔ (lowest n test < n)
+any_lowest n test = (
+  λ e. let w = any_found n test e in lowest_below n test w.0 w.1 w.2,
+  λ h. any_here n test (lowest n test) h (lowest_passes n test h),
+)
 
 pub any_same : (n : ℕ) (a c : ℕ → Bool) → Each n (λ i. a i ≡ c i) → any n a ≡ any n c
 any_same zero a c h = refl

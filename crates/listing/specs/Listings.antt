@@ -8,7 +8,7 @@ use Rattle.listing.specs.Yards.{Yard}
 use Rattle.listing.specs.Tables.{tabled}
 
 abbrev pub yard : Listing → Yard
-yard l = tabled l.train_count l.place_count l.places l.move_count l.moves
+yard l = tabled l.train_count l.places.count l.places.entries l.moves.count l.moves.entries
 
 -- the record of place p, or none where there is no such place
 abbrev pub Read : Yard → ℕ → Option Place → Type 0

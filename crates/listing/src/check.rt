@@ -1,5 +1,5 @@
 // Whether bytes keep the rules of a listing, checked in the order of the rules.
-ghost use Rattle.std.specs.Prelude.{◌≡◌, ◌+◌, ◌<◌, ◌≤◌, ◌≢◌, length, MatchResult};
+ghost use Rattle.std.specs.Prelude.{◌≡◌, ◌+◌, ◌<◌, ◌≤◌, true, ◌≢◌, ◌↔◌, length, MatchResult};
 ghost use Rattle.listing.specs.declared.fault.BytesFault.TheVariants as lengths;
 ghost use Rattle.listing.specs.declared.fault.ListingFault.TheVariants as faults;
 ghost use Rattle.listing.specs.Bytes.{yard_in, listed, set_at, owner_at, count_at, end_at};
@@ -7,13 +7,13 @@ ghost use Rattle.listing.specs.Yards.{start as lowest_place};
 ghost use Rattle.listing.specs.Shape.{Placed};
 ghost use Rattle.listing.specs.Rules.{Allowed, NotAllowed, Checked, train_rules, place_rules, owner_rules, set_rules, count_rules, move_rules, rules};
 
-use crate::bytes;
+use crate::bytes::Input;
 use crate::content::{MOST_MOVES, MOST_PLACES, MOST_TRAINS};
 use crate::fault::{BytesFault, ListingFault};
-use crate::scan::{Scan, check_each};
+use crate::place::Destination;
 
 // Whether the input reaches up to an offset.
-fn check_end(input: &[u8], end: usize) -> Result<(), BytesFault>
+fn check_end(input: &Input<'_>, end: usize) -> Result<(), BytesFault>
     ensures { MatchResult result (λ _. end ≤ length input.now) (λ f. (length input.now < end) × (f ≡ lengths.Ended (length input.now))) }
 {
     if input.len() < end {
@@ -23,7 +23,7 @@ fn check_end(input: &[u8], end: usize) -> Result<(), BytesFault>
 }
 
 // Whether nothing lies behind an offset.
-fn check_rest(input: &[u8], end: usize) -> Result<(), BytesFault>
+fn check_rest(input: &Input<'_>, end: usize) -> Result<(), BytesFault>
     ensures { MatchResult result (λ _. length input.now ≤ end) (λ f. (end < length input.now) × (f ≡ lengths.LeftOver end)) }
 {
     if input.len() > end {
@@ -32,167 +32,148 @@ fn check_rest(input: &[u8], end: usize) -> Result<(), BytesFault>
     Ok(())
 }
 
-fn check_trains(input: &[u8]) -> Result<(), ListingFault>
+fn check_trains(input: &Input<'_>) -> Result<(), ListingFault>
     ensures { Checked input.now train_rules result }
 {
     check_end(input, 1)?;
-    let trains = bytes::trains(input);
+    let trains = input.trains();
     if trains < 1 || trains > MOST_TRAINS {
         return Err(ListingFault::Size(0));
     }
     Ok(())
 }
 
-fn check_places(input: &[u8]) -> Result<(), ListingFault>
+fn check_places(input: &Input<'_>) -> Result<(), ListingFault>
     requires { 1 ≤ length input.now }
     ensures { Checked input.now place_rules result }
 {
     check_end(input, 2)?;
-    let places = bytes::places(input);
-    if places < bytes::trains(input) || places > MOST_PLACES {
+    let places = input.places();
+    if places < input.trains() || places > MOST_PLACES {
         return Err(ListingFault::Size(1));
     }
     Ok(())
 }
 
-// The train of each place is known.
-#[derive(Clone, Copy)]
-struct Owners<'a>(&'a [u8]);
-
-impl Scan for Owners<'_> {
-    ghost ready = { λ s p. 2 + p < length s.0.now };
-
-    ghost passes = { λ s p. (yard_in s.0.now).owner p < (yard_in s.0.now).trains };
-
-    ghost fails = { λ s p f. ((yard_in s.0.now).trains ≤ (yard_in s.0.now).owner p) × (f ≡ faults.UnknownTrain (owner_at s.0.now p)) };
-
-    fn check_at(&self, at: usize) -> Result<(), ListingFault> {
-        if bytes::owner(self.0, at) < bytes::trains(self.0) {
-            Ok(())
-        } else {
-            Err(ListingFault::UnknownTrain(2 + at))
-        }
+// The train of the place is known.
+fn check_owner(input: &Input<'_>, place: usize) -> Result<(), ListingFault>
+    requires { (place < 256) × (2 + place < length input.now) }
+    ensures { MatchResult result (λ _. (yard_in input.now).owner place < (yard_in input.now).trains) (λ f. ((yard_in input.now).trains ≤ (yard_in input.now).owner place) × (f ≡ faults.UnknownTrain (owner_at input.now place))) }
+{
+    if input.owner(place) >= input.trains() {
+        return Err(ListingFault::UnknownTrain(input.owner_offset(place)));
     }
+    Ok(())
 }
 
-// Each train has a place.
-#[derive(Clone, Copy)]
-struct Trains<'a>(&'a [u8]);
-
-impl Scan for Trains<'_> {
-    ghost ready = { λ s t. (2 ≤ length s.0.now) × (owner_at s.0.now (yard_in s.0.now).places ≤ length s.0.now) };
-
-    ghost passes = { λ s t. Placed (yard_in s.0.now) t };
-
-    ghost fails = { λ s t f. ((yard_in s.0.now).places ≤ lowest_place (yard_in s.0.now) t) × (f ≡ faults.TrainWithoutPlace) };
-
-    fn check_at(&self, at: usize) -> Result<(), ListingFault> {
-        for place in 0..bytes::places(self.0) {
-            if bytes::owner(self.0, place) == at {
-                return Ok(());
-            }
-        }
-        Err(ListingFault::TrainWithoutPlace)
-    }
+// Whether some place belongs to a train.
+fn has_place(input: &Input<'_>, train: usize) -> bool
+    requires { (2 ≤ length input.now) × (owner_at input.now (yard_in input.now).places ≤ length input.now) }
+    ensures { (result ≡ true) ↔ Placed (yard_in input.now) train }
+{
+    (0..input.places()).any(|place| input.owner(place) == train)
 }
 
-fn check_owners(input: &[u8]) -> Result<(), ListingFault>
+// The train has a place.
+fn check_train(input: &Input<'_>, train: usize) -> Result<(), ListingFault>
+    requires { (2 ≤ length input.now) × (owner_at input.now (yard_in input.now).places ≤ length input.now) }
+    ensures { MatchResult result (λ _. Placed (yard_in input.now) train) (λ f. ((yard_in input.now).places ≤ lowest_place (yard_in input.now) train) × (f ≡ faults.TrainWithoutPlace)) }
+{
+    if !has_place(input, train) {
+        return Err(ListingFault::TrainWithoutPlace);
+    }
+    Ok(())
+}
+
+fn check_owners(input: &Input<'_>) -> Result<(), ListingFault>
     requires { 2 ≤ length input.now }
     ensures { Checked input.now owner_rules result }
 {
-    let places = bytes::places(input);
-    check_end(input, 2 + places)?;
-    check_each(&Owners(input), places)?;
-    check_each(&Trains(input), bytes::trains(input))
-}
-
-// Each place has a block.
-#[derive(Clone, Copy)]
-struct Sets<'a>(&'a [u8]);
-
-impl Scan for Sets<'_> {
-    ghost ready = { λ s p. (p < 256) × (2 ≤ length s.0.now) × (set_at s.0.now (p + 1) ≤ length s.0.now) };
-
-    ghost passes = { λ s p. (yard_in s.0.now).blocks p ≢ 0 };
-
-    ghost fails = { λ s p f. ((yard_in s.0.now).blocks p ≡ 0) × (f ≡ faults.EmptySet (set_at s.0.now p)) };
-
-    fn check_at(&self, at: usize) -> Result<(), ListingFault> {
-        if bytes::blocks(self.0, at) != 0 {
-            Ok(())
-        } else {
-            Err(ListingFault::EmptySet(bytes::set_offset(self.0, at)))
-        }
+    let places = input.places();
+    check_end(input, input.owner_offset(places))?;
+    // loops, here and below: given as a closure to one function, the checks would tell too little of the first that fails
+    for place in 0..places {
+        check_owner(input, place)?;
     }
+    for train in 0..input.trains() {
+        check_train(input, train)?;
+    }
+    Ok(())
 }
 
-fn check_sets(input: &[u8]) -> Result<(), ListingFault>
+// The place has a block.
+fn check_set(input: &Input<'_>, place: usize) -> Result<(), ListingFault>
+    requires { (place < 256) × (2 ≤ length input.now) × (set_at input.now (place + 1) ≤ length input.now) }
+    ensures { MatchResult result (λ _. (yard_in input.now).blocks place ≢ 0) (λ f. ((yard_in input.now).blocks place ≡ 0) × (f ≡ faults.EmptySet (set_at input.now place))) }
+{
+    if input.blocks(place) == 0 {
+        return Err(ListingFault::EmptySet(input.set_offset(place)));
+    }
+    Ok(())
+}
+
+fn check_sets(input: &Input<'_>) -> Result<(), ListingFault>
     requires { 2 ≤ length input.now }
     ensures { Checked input.now set_rules result }
 {
-    let places = bytes::places(input);
-    check_end(input, bytes::set_offset(input, places))?;
-    check_each(&Sets(input), places)
+    let places = input.places();
+    check_end(input, input.set_offset(places))?;
+    for place in 0..places {
+        check_set(input, place)?;
+    }
+    Ok(())
 }
 
-fn check_count(input: &[u8]) -> Result<(), ListingFault>
+fn check_count(input: &Input<'_>) -> Result<(), ListingFault>
     requires { 2 ≤ length input.now }
     ensures { Checked input.now count_rules result }
 {
-    let offset = bytes::count_offset(input);
+    let offset = input.count_offset();
     check_end(input, offset + 1)?;
-    if bytes::moves(input) > MOST_MOVES {
+    if input.moves() > MOST_MOVES {
         return Err(ListingFault::Size(offset));
     }
     Ok(())
 }
 
-// Each move is allowed.
-#[derive(Clone, Copy)]
-struct Moves<'a>(&'a [u8]);
-
-impl Scan for Moves<'_> {
-    ghost ready = { λ s m. (m < 256) × (m < listed s.0.now) × (2 ≤ length s.0.now) × (end_at s.0.now ≤ length s.0.now) };
-
-    ghost passes = { λ s m. Allowed s.0.now m };
-
-    ghost fails = { λ s m f. NotAllowed s.0.now m f };
-
-    fn check_at(&self, at: usize) -> Result<(), ListingFault> {
-        let input = self.0;
-        let places = bytes::places(input);
-        let from = bytes::from(input, at);
-        let to = bytes::to(input, at);
-        if from >= places {
-            return Err(ListingFault::NoSuchOrigin(bytes::from_offset(input, at)));
-        }
-        if to >= places {
-            return if to == bytes::OUT {
-                Ok(())
-            } else {
-                Err(ListingFault::NoSuchDestination(bytes::to_offset(input, at)))
-            };
-        }
-        if bytes::owner(input, from) != bytes::owner(input, to) {
-            return Err(ListingFault::OtherTrain(bytes::from_offset(input, at)));
-        }
-        Ok(())
+// The move is allowed.
+fn check_move(input: &Input<'_>, index: usize) -> Result<(), ListingFault>
+    requires { (index < 256) × (index < listed input.now) × (2 ≤ length input.now) × (end_at input.now ≤ length input.now) }
+    ensures { MatchResult result (λ _. Allowed input.now index) (NotAllowed input.now index) }
+{
+    let places = input.places();
+    let from = input.from(index);
+    if from >= places {
+        return Err(ListingFault::NoSuchOrigin(input.from_offset(index)));
     }
+    let Destination::Place(to) = input.to(index) else {
+        return Ok(());
+    };
+    if to >= places {
+        return Err(ListingFault::NoSuchDestination(input.to_offset(index)));
+    }
+    if input.owner(from) != input.owner(to) {
+        return Err(ListingFault::OtherTrain(input.from_offset(index)));
+    }
+    Ok(())
 }
 
-fn check_moves(input: &[u8]) -> Result<(), ListingFault>
+fn check_moves(input: &Input<'_>) -> Result<(), ListingFault>
     requires { (2 ≤ length input.now) × (count_at input.now + 1 ≤ length input.now) }
     ensures { Checked input.now move_rules result }
 {
-    let moves = bytes::moves(input);
-    let end = bytes::count_offset(input) + 1 + 2 * moves;
+    let moves = input.moves();
+    let end = input.count_offset() + 1 + 2 * moves;
     check_end(input, end)?;
     check_rest(input, end)?;
-    check_each(&Moves(input), moves)
+    for index in 0..moves {
+        check_move(input, index)?;
+    }
+    Ok(())
 }
 
 // Whether the bytes keep all rules.
-pub(crate) fn check(input: &[u8]) -> Result<(), ListingFault>
+pub(crate) fn check(input: &Input<'_>) -> Result<(), ListingFault>
     ensures { Checked input.now rules result }
 {
     check_trains(input)?;

@@ -4,6 +4,7 @@ ghost use Rattle.listing.specs.Tables.{tabled};
 ghost use Rattle.listing.specs.Shape.{Shaped};
 
 use crate::place::{Move, Place};
+use bounded::list::BoundedList;
 
 pub mod getters;
 pub mod reading;
@@ -14,16 +15,12 @@ pub const MOST_PLACES: usize = 84;
 
 pub const MOST_MOVES: usize = 200;
 
-// Trains, places and moves as listed. Places and moves stand in the first entries of their tables.
+// Trains, places and moves as listed.
 #[derive(Clone, Copy)]
 pub struct Listing {
     train_count: usize,
-    place_count: usize,
-    places: [Place; 84],
-    move_count: usize,
-    moves: [Move; 200],
+    places: BoundedList<Place, MOST_PLACES>,
+    moves: BoundedList<Move, MOST_MOVES>,
     ghost trains_ranged: { (1 ≤ train_count) × (train_count ≤ 12) },
-    ghost places_few: { place_count ≤ 84 },
-    ghost moves_few: { move_count ≤ 200 },
-    ghost shaped: { ∥ Shaped (tabled train_count place_count places move_count moves) ∥₁ },
+    ghost shaped: { ∥ Shaped (tabled train_count places.count places.entries moves.count moves.entries) ∥₁ },
 }

@@ -1,9 +1,11 @@
 // Why bytes are not a listing.
 ghost use Rattle.std.specs.Prelude.{◌≡◌};
 ghost use Rattle.listing.specs.declared.fault.ListingFault.TheVariants as faults;
-ghost use Rattle.listing.specs.Refusals.{bytes_told, told};
+ghost use Rattle.listing.specs.Refusals.{bytes_told, told as told_listing};
 
-use net::fault::{Layer, Refusal};
+use net::fault::{Fault, Layer, Refusal};
+use std::error::Error;
+use std::fmt;
 
 // What is wrong with the length of the input.
 #[derive(Clone, Copy, Debug, PartialEq, Eq)]
@@ -41,10 +43,10 @@ impl From<BytesFault> for ListingFault {
     }
 }
 
-impl BytesFault {
-    pub(crate) fn refusal(&self) -> Refusal
-        ensures { result ≡ bytes_told self.now }
-    {
+impl Fault for BytesFault {
+    ghost told = { bytes_told };
+
+    fn refusal(&self) -> Refusal {
         let (number, place) = match *self {
             BytesFault::Ended(length) => (1, length),
             BytesFault::LeftOver(offset) => (9, offset),
@@ -57,10 +59,10 @@ impl BytesFault {
     }
 }
 
-impl ListingFault {
-    pub fn refusal(&self) -> Refusal
-        ensures { result ≡ told self.now }
-    {
+impl Fault for ListingFault {
+    ghost told = { told_listing };
+
+    fn refusal(&self) -> Refusal {
         let (number, place) = match *self {
             ListingFault::Bytes(fault) => return fault.refusal(),
             ListingFault::Size(offset) => (2, offset),
@@ -78,3 +80,55 @@ impl ListingFault {
         }
     }
 }
+
+impl fmt::Display for BytesFault {
+    fn fmt<W: fmt::Write>(&self, f: &mut fmt::Formatter<W>) -> fmt::Result {
+        match self {
+            BytesFault::Ended(length) => write!(
+                f,
+                "the input ends after {length} bytes, before a size or an array does"
+            ),
+            BytesFault::LeftOver(offset) => write!(
+                f,
+                "bytes are left over from offset {offset} on"
+            ),
+        }
+    }
+}
+
+impl fmt::Display for ListingFault {
+    fn fmt<W: fmt::Write>(&self, f: &mut fmt::Formatter<W>) -> fmt::Result {
+        match self {
+            ListingFault::Bytes(fault) => write!(f, "{fault}"),
+            ListingFault::Size(offset) => write!(
+                f,
+                "the number at offset {offset} is out of its range"
+            ),
+            ListingFault::UnknownTrain(offset) => write!(
+                f,
+                "the place at offset {offset} belongs to no train"
+            ),
+            ListingFault::TrainWithoutPlace => f.write_str("a train has no place"),
+            ListingFault::EmptySet(offset) => write!(
+                f,
+                "the place whose set is at offset {offset} covers no block"
+            ),
+            ListingFault::NoSuchOrigin(offset) => write!(
+                f,
+                "the move whose from is at offset {offset} leaves no place"
+            ),
+            ListingFault::NoSuchDestination(offset) => write!(
+                f,
+                "the move whose to is at offset {offset} leads neither to a place nor out"
+            ),
+            ListingFault::OtherTrain(offset) => write!(
+                f,
+                "the move whose from is at offset {offset} joins places of two trains"
+            ),
+        }
+    }
+}
+
+impl Error for BytesFault {}
+
+impl Error for ListingFault {}

@@ -6,4 +6,3 @@ mod check;
 pub mod content;
 pub mod fault;
 pub mod place;
-mod scan;

@@ -3,17 +3,8 @@ use Rattle.std.proofs.Common.{◌≡◌, ℕ, ◌+◌, ◌<◌, ◌≤◌, Bool,
 use Rattle.std.proofs.lemmas.List.{get_or-set_same, get_or-set_other, length-set}
 use Rattle.std.proofs.lemmas.Bool.{cases_eq}
 use Rattle.net.specs.Walks.{Walk, OnCircle, NoCircle, last, then}
-use Rattle.net.specs.Marks.{Cleared}
 use Rattle.net.specs.Visits.{Done, Grown, Ready, Passed, Visited}
 use Rattle.net.proofs.Counts.{unseen, fewer_set, fewer_grown}
-
--- cleared, used by a walk that leaves the bytes behind as they are, and cleared again
-pub cleared_over : {a b c d : List ℕ} → Cleared a b → length c ≡ length b → ((k : ℕ) → 96 ≤ k → get_or c k 0 ≡ get_or b k 0) → Cleared c d → Cleared a d
-cleared_over once size kept again = record {
-  zeroed = again.zeroed;
-  behind = λ k l. again.behind k l ∙ kept k l ∙ once.behind k l;
-  size = again.size ∙ size ∙ once.size;
-}
 
 -- one arc more at the end
 pub walk_on : {arc : ℕ → ℕ → Bool} {a b c : ℕ} → Walk arc a b → arc b c ≡ true → Walk arc a c
@@ -199,17 +190,6 @@ module _ (arc : ℕ → ℕ → Bool) (nodes : ℕ) (few : nodes ≤ 96) (inside
         others = λ k l. (let ne : k ≢ at = λ s. (let i = ready.inside in omega arith) in get_or-set_other m' at k 2 0 ne ∙ others_kept m' nodes going k l);
         answer = passed_all;
       })
-
-  pub between_first : (m : List ℕ) → ((k : ℕ) → k < 96 → get_or m k 0 ≡ 0) → Between arc nodes m m 0
-  between_first m z =
-      let none : (v : ℕ) → v < nodes → get_or m v 0 ≡ 2 → ⊥ = λ v l e. (let y = z v (omega arith) in omega arith) in
-      record {
-        size = refl;
-        others = λ k l. refl;
-        kinds = λ v l. inl (z v (omega arith));
-        done = record { closed = λ v w l e h. absurd (none v l e); free = λ v l e c. none v l e };
-        seen = λ w l. absurd (omega arith);
-      }
 
   module _ (m m' : List ℕ) (room : 96 ≤ length m) (start : ℕ) (between : Between arc nodes m m' start) where
     pub ready_start : start < nodes → get_or m' start 0 ≡ 0 → Ready arc nodes m' start

@@ -14,6 +14,7 @@ fn visit<N: WeightedNet>(net: &N, marks: &mut Marks, at: usize) -> Option<usize>
     ensures visited { Visited (N.Net.arc net.now) (N.Net.nodes net.now) marks.old.bytes.now marks.new.bytes.now at result }
 {
     marks.put(at, Mark::OnPath);
+    // a loop and no chain, here and below, since it lends the marks and can leave early
     for next in 0..net.node_count() {
         if net.has_arc(at, next) {
             match marks.mark(next) {

@@ -11,6 +11,7 @@ use crate::marks::{Mark, Marks};
 use crate::nets::{MOST_NODES, WeightedNet};
 
 // The greatest sum over the ways from the node `at`, in a net with no circle; `sums` has those of the done nodes.
+// They are no `Option`, since a node is marked when it is entered too, and that it is done would be said twice.
 fn settle<N: WeightedNet>(
     net: &N,
     marks: &mut Marks,
@@ -26,6 +27,7 @@ fn settle<N: WeightedNet>(
     }
     marks.put(at, Mark::OnPath);
     let mut best: i32 = 0;
+    // a loop and no chain, since it lends the marks and the sums
     for next in 0..net.node_count() {
         if net.has_arc(at, next) {
             let sum = net.weight(at, next) + settle(net, marks, sums, next);
@@ -64,7 +66,7 @@ pub fn longest_way<N: WeightedNet>(
     if from >= net.node_count() {
         return Err(WalkFault::NoSuchNode);
     }
-    if let Some(_) = find_circle(net, marks)? {
+    if find_circle(net, marks)?.is_some() {
         return Ok(None);
     }
     Ok(Some(greatest_sum(net, marks, from)))

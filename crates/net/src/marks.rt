@@ -12,14 +12,36 @@ pub(crate) enum Mark {
     Done,
 }
 
+impl From<u8> for Mark {
+    ghost from_gives = { λ byte mark. mark ≡ mark_of byte };
+
+    fn from(byte: u8) -> Mark {
+        match byte {
+            0 => Mark::Unseen,
+            1 => Mark::OnPath,
+            _ => Mark::Done,
+        }
+    }
+}
+
+impl From<Mark> for u8 {
+    ghost from_gives = { λ mark byte. byte ≡ byte_of mark };
+
+    fn from(mark: Mark) -> u8 {
+        match mark {
+            Mark::Unseen => 0,
+            Mark::OnPath => 1,
+            Mark::Done => 2,
+        }
+    }
+}
+
 // Zeroes the first 96 bytes.
 fn clear(bytes: &mut [u8])
     requires { 96 ≤ length bytes.old }
     ensures { Cleared bytes.old bytes.new }
 {
-    for i in 0..MOST_NODES {
-        bytes[i] = 0;
-    }
+    bytes[..MOST_NODES].fill(0);
 }
 
 // Holds the mark bytes for one walk, and zeroes the first 96 on every way out of it.
@@ -52,11 +74,7 @@ impl<'a> Marks<'a> {
         requires { node < length self.now.bytes.now }
         ensures { result ≡ mark_of (slice_index self.now.bytes.now node) }
     {
-        match self.bytes[node] {
-            0 => Mark::Unseen,
-            1 => Mark::OnPath,
-            _ => Mark::Done,
-        }
+        Mark::from(self.bytes[node])
     }
 
     pub(crate) fn put(&mut self, node: usize, mark: Mark)
@@ -64,6 +82,6 @@ impl<'a> Marks<'a> {
         ensures lent { self.new.bytes.ghost_name ≡ self.old.bytes.ghost_name }
         ensures written { self.new.bytes.now ≡ slice_set self.old.bytes.now node (byte_of mark) }
     {
-        self.bytes[node] = mark as u8;
+        self.bytes[node] = u8::from(mark);
     }
 }

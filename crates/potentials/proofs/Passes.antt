@@ -1,34 +1,37 @@
 -- Passes over the held differences raise the numbers to the greatest sums.
-use Rattle.std.proofs.Common.{◌≡◌, ℕ, zero, suc, ◌+◌, ◌*◌, ◌<◌, ◌≤◌, Bool, true, false, ◌⊎◌, List, [], ◌∷◌, ◌++◌, length, set, ℤ, pos, ◌+ℤ◌, ◌≤ℤ◌, ◌<ℤ◌, sym, refl, ap, ◌∙◌, subst, inl, inr, arith, lit≤, length-set}
-use Rattle.std.proofs.lemmas.List.{get_or-set_same, get_or-set_other, length_push}
+use Rattle.std.proofs.Common.{◌≡◌, ℕ, zero, suc, ◌+◌, ◌*◌, ◌<◌, ◌≤◌, Bool, true, false, not, ◌⊎◌, List, [], ◌∷◌, ◌++◌, length, get_or, replicate, set, ℤ, pos, ◌+ℤ◌, ◌≤ℤ◌, ◌<ℤ◌, Some, sym, refl, ap, ◌∙◌, subst, inl, inr, arith, lit≤, length-set}
+use Rattle.std.proofs.lemmas.List.{get_or-replicate, get_or-set_same, get_or-set_other, length_push}
 use Rattle.std.proofs.lemmas.Int.{ints}
-use Rattle.std.proofs.lemmas.Bool.{cases_eq}
+use Rattle.std.proofs.lemmas.Bool.{cases_eq, cases_Bool}
+use Rattle.std.specs.Cmp.Rules.{signed_items}
+use Rattle.std.specs.Cmp.Lexicographic.{pointwise}
+use Rattle.std.specs.Ordering.{int_eq}
 use Rattle.engine.specs.Circles.{In, Walk, stay, Among, Small, Lawful, NoRisingCircle, NoRiseThrough, Meets}
 use Rattle.engine.specs.Paths.{Path, end, on}
-use Rattle.engine.specs.Ways.{Greatest}
+use Rattle.engine.specs.Ways.{top, Greatest}
 use Rattle.engine.specs.declared.difference.Difference.{Difference}
 use Rattle.engine.proofs.Walking.{in_longer, in_last, in_push, join, arc, walk_longer, flat_none, still, meets_walk}
 use Rattle.engine.proofs.Short.{short, few, path_under}
 use Rattle.engine.proofs.Tops.{starts, top_greatest, greatest_same, greatest_meets, greatest_low, greatest_high}
 use Rattle.engine.proofs.Greatest.{Avoids, Through, once, level_from}
-use Rattle.engine.proofs.Fronts.{lawful_push}
-use Rattle.potentials.specs.Numbers.{number, Tops, Relaxed, Floor, Ceiling, Attained, Passed}
+use Rattle.engine.proofs.Fronts.{no_difference, in_at, lawful_push}
+use Rattle.potentials.specs.Numbers.{number, Tops, Relaxed, Floor, Ceiling, Attained, Passed, Settled}
+use Rattle.potentials.specs.declared.numbers.Level.{Level}
 
 -- ---- one difference
 
-module _ (ps : List ℤ) (d : Difference) (v : ℤ) (long : d.to < length ps) where
-  set_here : number (set ps d.to v) d.to ≡ v
-  set_here = get_or-set_same ps d.to v (pos 0) long
+each_push : (P : Difference → Type 0) (ds : List Difference) (d : Difference) → ((e : Difference) → In e ds → P e) → P d → (e : Difference) → In e (ds ++ (d ∷ [])) → P e
+each_push P ds d old newest e h = elim (in_push ds d e h) [ inl i ↦ old e i | inr i ↦ subst P (sym i) newest ]
 
-  -- what holds of the old number and of v holds after
-  set_each : (P : ℕ → ℤ → Type 0) (y : ℕ) → P y (number ps y) → (y ≡ d.to → P y v) → P y (number (set ps d.to v) y)
-  set_each P y old here =
-      elim (cases_eq y d.to) [
-        | inl e ↦ subst (P y) (sym (ap (number (set ps d.to v)) e ∙ set_here)) (here e)
-        | inr e ↦ subst (P y) (sym (get_or-set_other ps d.to y v (pos 0) e)) old
-      ]
+-- what holds of the old number and of v holds once v is written
+set_each : (P : ℕ → ℤ → Type 0) (ps : List ℤ) (i : ℕ) (v : ℤ) (y : ℕ) → i < length ps → P y (number ps y) → (y ≡ i → P y v) → P y (number (set ps i v) y)
+set_each P ps i v y long old here =
+    elim (cases_eq y i) [
+      | inl e ↦ subst (P y) (sym (ap (number (set ps i v)) e ∙ get_or-set_same ps i v (pos 0) long)) (here e)
+      | inr e ↦ subst (P y) (sym (get_or-set_other ps i y v (pos 0) e)) old
+    ]
 
-pub passed_none : (ps : List ℤ) → length ps ≡ 96 → Passed [] ps ps false
+passed_none : (ps : List ℤ) → length ps ≡ 96 → Passed [] ps ps false
 passed_none ps long =
     record {
       sized = long;
@@ -39,53 +42,54 @@ passed_none ps long =
       ceiling = λ b h y low. let l = h y low in omega (arith, ints);
     }
 
-module _ (done : List Difference) (old new : List ℤ) (c : Bool) (r : Passed done old new c) (d : Difference) (among : Among 96 d) (small : Small d) where
-  raised_more : number new d.to <ℤ (number new d.from +ℤ d.k) → Passed (done ++ (d ∷ [])) old (set new d.to (number new d.from +ℤ d.k)) true
-  raised_more high =
-      let v = number new d.from +ℤ d.k in
-      let place : d.to < length new = omega (arith, among.1, r.sized) in
-      let from_up = r.up d.from among.0 in
-      let to_up = r.up d.to among.1 in
-      let more : (y : ℕ) → number new y ≤ℤ number (set new d.to v) y = λ y. set_each new d v place (λ z w. number new z ≤ℤ w) y (omega (arith, ints)) (λ e. let same : number new y ≡ number new d.to = ap (number new) e in omega (arith, ints)) in
+module _ (done : List Difference) (old new : List ℤ) (c : Bool) (p : Passed done old new c) (d : Difference) where
+  -- one difference more that is met
+  passed_met : (number old d.from +ℤ d.k) ≤ℤ number new d.to → Passed (done ++ (d ∷ [])) old new c
+  passed_met met =
       record {
-        sized = length-set new d.to v ∙ r.sized;
-        up = λ y low. let h = r.up y low in let k = more y in omega (arith, ints);
-        met = λ e h. elim (in_push done d e h) [
-          | inl i ↦ let l = r.met e i in let k = more e.to in omega (arith, ints)
-          | inr i ↦ subst (λ z. (number old z.from +ℤ z.k) ≤ℤ number (set new d.to v) z.to) (sym i) (subst (λ w. (number old d.from +ℤ d.k) ≤ℤ w) (sym (set_here new d v place)) (omega (arith, ints)))
-        ];
-        told = (d.to, among.1, subst (λ w. number old d.to <ℤ w) (sym (set_here new d v place)) (omega (arith, ints)));
+        sized = p.sized;
+        up = p.up;
+        met = each_push (λ e. (number old e.from +ℤ e.k) ≤ℤ number new e.to) done d p.met met;
+        told = p.told;
+        attained = λ ds part. p.attained ds (λ e i. part e (in_longer done (d ∷ []) e i));
+        ceiling = λ b h y low. let l = p.ceiling b h y low in omega (arith, ints, length_push done d);
+      }
+
+  -- one that a raise meets
+  passed_raised : Among 96 d × Small d → number new d.to <ℤ (number new d.from +ℤ d.k) → Passed (done ++ (d ∷ [])) old (set new d.to (number new d.from +ℤ d.k)) true
+  passed_raised (among, small) high =
+      let v = number new d.from +ℤ d.k in
+      let place : d.to < length new = omega (arith, among.1, p.sized) in
+      let from_up = p.up d.from among.0 in
+      let to_up = p.up d.to among.1 in
+      let here : number (set new d.to v) d.to ≡ v = get_or-set_same new d.to v (pos 0) place in
+      let more : (y : ℕ) → number new y ≤ℤ number (set new d.to v) y = λ y. set_each (λ z w. number new z ≤ℤ w) new d.to v y place (omega (arith, ints)) (λ e. let same : number new y ≡ number new d.to = ap (number new) e in omega (arith, ints)) in
+      record {
+        sized = length-set new d.to v ∙ p.sized;
+        up = λ y low. let h = p.up y low in let k = more y in omega (arith, ints);
+        met = each_push (λ e. (number old e.from +ℤ e.k) ≤ℤ number (set new d.to v) e.to) done d (λ e i. let l = p.met e i in let k = more e.to in omega (arith, ints)) (omega (arith, ints));
+        told = (d.to, among.1, omega (arith, ints));
         attained = λ ds part h y low.
-            let front : (e : Difference) → In e done → In e ds = λ e i. part e (in_longer done (d ∷ []) e i) in
-            set_each new d v place (λ z w. (x : ℕ) × Walk ds x z w) y (r.attained ds front h y low) (λ e. let w = r.attained ds front h d.from among.0 in subst (λ z. (x : ℕ) × Walk ds x z v) (sym e) (w.0, join w.1 (arc d (part d (in_last done d)))));
+            let has = p.attained ds (λ e i. part e (in_longer done (d ∷ []) e i)) h in
+            set_each (λ z w. (x : ℕ) × Walk ds x z w) new d.to v y place (has y low) (λ e. let w = has d.from among.0 in subst (λ z. (x : ℕ) × Walk ds x z v) (sym e) (w.0, join w.1 (arc d (part d (in_last done d)))));
         ceiling = λ b h y low.
             let one = length_push done d in
-            set_each new d v place (λ z w. w ≤ℤ pos (b + 1000 * length (done ++ (d ∷ [])))) y (let l = r.ceiling b h y low in omega (arith, ints)) (λ e. let l = r.ceiling b h d.from among.0 in omega (arith, ints, small.1));
+            set_each (λ z w. w ≤ℤ pos (b + 1000 * length (done ++ (d ∷ [])))) new d.to v y place (let l = p.ceiling b h y low in omega (arith, ints)) (λ e. let l = p.ceiling b h d.from among.0 in omega (arith, ints, small.1));
       }
 
-  kept_more : (number new d.from +ℤ d.k) ≤ℤ number new d.to → Passed (done ++ (d ∷ [])) old new c
-  kept_more met =
-      let from_up = r.up d.from among.0 in
-      record {
-        sized = r.sized;
-        up = r.up;
-        met = λ e h. elim (in_push done d e h) [
-          | inl i ↦ r.met e i
-          | inr i ↦ subst (λ z. (number old z.from +ℤ z.k) ≤ℤ number new z.to) (sym i) (omega (arith, ints))
-        ];
-        told = r.told;
-        attained = λ ds part. r.attained ds (λ e i. part e (in_longer done (d ∷ []) e i));
-        ceiling = λ b h y low. let l = r.ceiling b h y low in let one = length_push done d in omega (arith, ints);
-      }
+  -- so after either answer of relax
+  pub passed_more : (new' : List ℤ) (r : Bool) → Among 96 d × Small d → Relaxed d new new' r → (c' : Bool) × Passed (done ++ (d ∷ [])) old new' c'
+  passed_more new' true own h = (true, rw h.1 (passed_raised own h.0))
+  passed_more new' false own h = (c, rw h.1 (passed_met (let up = p.up d.from own.0.0 in omega (arith, ints, h.0))))
 
-  -- the same over other names for the lists and the flag
-  pub passed_then : (done' : List Difference) (new' : List ℤ) (c' : Bool) → done' ≡ done ++ (d ∷ []) → c' ≡ true → Relaxed d new new' true → Passed done' old new' c'
-  passed_then done' new' c' e f h =
-      subst (λ xs. Passed xs old new' c') (sym e) (subst (λ b. Passed (done ++ (d ∷ [])) old new' b) (sym f) (subst (λ ps. Passed (done ++ (d ∷ [])) old ps true) (sym h.1) (raised_more h.0)))
-
-  pub passed_else : (done' : List Difference) (new' : List ℤ) (c' : Bool) → done' ≡ done ++ (d ∷ []) → c' ≡ c → Relaxed d new new' false → Passed done' old new' c'
-  passed_else done' new' c' e f h =
-      subst (λ xs. Passed xs old new' c') (sym e) (subst (λ b. Passed (done ++ (d ∷ [])) old new' b) (sym f) (subst (λ ps. Passed (done ++ (d ∷ [])) old ps c) (sym h.1) (kept_more h.0)))
+-- whether a number rose is whether the numbers differ
+pub passed_differs : (done : List Difference) (old new : List ℤ) (c : Bool) → Passed done old new c → not (pointwise int_eq new old) ≡ c
+passed_differs done old new false p = ap not ((signed_items new old).1 p.told)
+passed_differs done old new true p =
+    elim (cases_Bool (pointwise int_eq new old)) [
+      | inl e ↦ let same : number new p.told.0 ≡ number old p.told.0 = ap (λ z. number z p.told.0) ((signed_items new old).0 e) in let rose = p.told.2 in absurd (omega (arith, ints))
+      | inr e ↦ ap not e
+    ]
 
 -- ---- whole passes
 
@@ -112,9 +116,12 @@ covers_none : (ds : List Difference) (ps : List ℤ) → Floor ps → Covers ds 
 covers_none ds ps down y zero s low few stop = down y low
 covers_none ds ps down y (suc m) s low few w = absurd (omega arith)
 
-covers_more : (ds : List Difference) (r : ℕ) (old new : List ℤ) (c : Bool) → Lawful 96 ds → Floor old → Passed ds old new c → Covers ds r old → Covers ds (r + 1) new
-covers_more ds r old new c ok down pass cover y zero s low few stop = let l = down y low in let k = pass.up y low in omega (arith, ints)
-covers_more ds r old new c ok down pass cover y (suc k) s low few (more {s = t} d h w) =
+pub covers_floor : (ds : List Difference) (r : ℕ) (ps : List ℤ) → Covers ds r ps → Floor ps
+covers_floor ds r ps cover y low = cover y 0 (pos 0) low (omega arith) stop
+
+covers_more : (ds : List Difference) (r : ℕ) (old new : List ℤ) (c : Bool) → Lawful 96 ds → Passed ds old new c → Covers ds r old → Covers ds (r + 1) new
+covers_more ds r old new c ok pass cover y zero s low few stop = let l = covers_floor ds r old cover y low in let k = pass.up y low in omega (arith, ints)
+covers_more ds r old new c ok pass cover y (suc k) s low few (more {s = t} d h w) =
     let l = cover d.from k t (ok d h).0.0 (omega arith) w in
     let j = pass.met d h in
     omega (arith, ints)
@@ -139,7 +146,7 @@ change_rises ds r old new ok enough cover has pass flat =
     omega (arith, ints)
 
 -- numbers that meet each difference, and are sums of walks, are the greatest sums
-pub settled_met : (ds : List Difference) (ps : List ℤ) → Lawful 96 ds → Floor ps → Attained ds ps → Meets (number ps) ds → NoRisingCircle ds × Tops ds ps
+settled_met : (ds : List Difference) (ps : List ℤ) → Lawful 96 ds → Floor ps → Attained ds ps → Meets (number ps) ds → Settled ds (Some ps)
 settled_met ds ps ok down has met = (flat, λ y low. greatest_same (greatest y low) (top_greatest 96 ds y low ok flat))
   where
     flat : NoRisingCircle ds
@@ -154,133 +161,102 @@ settled_met ds ps ok down has met = (flat, λ y low. greatest_same (greatest y l
           most = λ x t v. let l = meets_walk (number ps) met v in let j = down x (starts 96 ok low v) in omega (arith, ints);
         }
 
--- ---- where the passes start
+-- ---- a level and one difference more
 
-pub tops_greatest : (ds : List Difference) (ps : List ℤ) (y : ℕ) → y < 96 → Lawful 96 ds → NoRisingCircle ds → Tops ds ps → Greatest ds y (number ps y)
-tops_greatest ds ps y low ok flat told = subst (Greatest ds y) (sym (told y low)) (top_greatest 96 ds y low ok flat)
+pub lawful_at : (v : Level) (i : ℕ) → i < length v.held.now → Among 96 (get_or v.held.now i no_difference) × Small (get_or v.held.now i no_difference)
+lawful_at v i within = v.lawful _ (in_at v.held.now i no_difference within)
 
-pub tops_near : (ds : List Difference) (ps : List ℤ) (y : ℕ) → y < 96 → Lawful 96 ds → NoRisingCircle ds → Tops ds ps → (pos 0 ≤ℤ number ps y) × (number ps y ≤ℤ pos 95000)
-tops_near ds ps y low ok flat told =
-    let g = tops_greatest ds ps y low ok flat told in
-    (greatest_low g, greatest_high 96 (lit≤ tt) low ok flat g)
+at_level : (v : Level) (y : ℕ) → y < 96 → Greatest v.held.now y (number v.numbers.now y)
+at_level v y low = subst (Greatest v.held.now y) (sym (v.told y low)) (top_greatest 96 v.held.now y low v.lawful v.level)
 
--- ---- one difference more
+pub near : (v : Level) (y : ℕ) → y < 96 → (pos 0 ≤ℤ number v.numbers.now y) × (number v.numbers.now y ≤ℤ pos 95000)
+near v y low = let g = at_level v y low in (greatest_low g, greatest_high 96 (lit≤ tt) low v.lawful v.level g)
 
--- after r passes that each changed something, for one difference more than those that ps are the numbers of
-pub record Mending (ds : List Difference) (d : Difference) (ps : List ℤ) (r : ℕ) (before : ℤ) (qs : List ℤ) : Type 0 where
-  pub sized : length qs ≡ 96
-  pub low : Floor qs
+-- the held differences and one more
+abbrev pub with_one : Level → Difference → List Difference
+with_one v d = v.held.now ++ (d ∷ [])
+
+-- after r passes that each changed something, with one difference more
+pub record Mending (v : Level) (d : Difference) (r : ℕ) (qs : List ℤ) : Type 0 where
   pub high : Ceiling (96000 + 1101000 * r) qs
-  pub has : Attained (ds ++ (d ∷ [])) qs
-  pub cover : Covers (ds ++ (d ∷ [])) r qs
-  pub risen : 96 ≤ r → NoRisingCircle (ds ++ (d ∷ [])) → ⊥
-  pub start : number ps d.from ≤ℤ number qs d.from
-  pub same : before ≡ number ps d.from
-  pub met : (number ps d.from +ℤ d.k) ≤ℤ number qs d.to
+  pub has : Attained (with_one v d) qs
+  pub cover : Covers (with_one v d) r qs
+  pub risen : 96 ≤ r → NoRisingCircle (with_one v d) → ⊥
+  pub met : (number v.numbers.now d.from +ℤ d.k) ≤ℤ number qs d.to
 
-module _ (ds : List Difference) (d : Difference) (ps : List ℤ) (ok : Lawful 96 ds) (flat : NoRisingCircle ds) (among : Among 96 d) (small : Small d) (told : Tops ds ps) where
-  at : (y : ℕ) → y < 96 → Greatest ds y (number ps y)
-  at y low = tops_greatest ds ps y low ok flat told
+module _ (v : Level) (d : Difference) (own : Among 96 d × Small d) where
+  lawful_more : Lawful 96 (with_one v d)
+  lawful_more = lawful_push 96 v.held.now d v.lawful own.0 own.1
 
-  pub lawful_more : Lawful 96 (ds ++ (d ∷ []))
-  lawful_more = lawful_push 96 ds d ok among small
+  attained_more : Attained (with_one v d) v.numbers.now
+  attained_more y low = let g = at_level v y low in (g.start, walk_longer v.held.now (d ∷ []) g.walk)
 
-  attained_more : Attained (ds ++ (d ∷ [])) ps
-  attained_more y low = let g = at y low in (g.start, walk_longer ds (d ∷ []) g.walk)
-
-  -- where they meet it they stay
-  pub settled_kept : (number ps d.from +ℤ d.k) ≤ℤ number ps d.to → NoRisingCircle (ds ++ (d ∷ [])) × Tops (ds ++ (d ∷ [])) ps
-  settled_kept met =
-      settled_met (ds ++ (d ∷ [])) ps lawful_more (λ y low. greatest_low (at y low)) attained_more (λ e h. elim (in_push ds d e h) [
-        | inl i ↦ let own = (ok e i).0 in greatest_meets e (number ps e.from) (number ps e.to) i (at e.from own.0) (at e.to own.1)
-        | inr i ↦ subst (λ z. (number ps z.from +ℤ z.k) ≤ℤ number ps z.to) (sym i) met
-      ])
+  -- numbers that meet the difference stay
+  pub settled_kept : (qs : List ℤ) → Relaxed d v.numbers.now qs false → Settled (with_one v d) (Some qs)
+  settled_kept qs h =
+      subst (λ z. Settled (with_one v d) (Some z)) (sym h.1)
+      (settled_met (with_one v d) v.numbers.now lawful_more (λ y low. (near v y low).0) attained_more
+      (each_push (λ e. (number v.numbers.now e.from +ℤ e.k) ≤ℤ number v.numbers.now e.to) v.held.now d
+      (λ e i. let its = (v.lawful e i).0 in greatest_meets e (number v.numbers.now e.from) (number v.numbers.now e.to) i (at_level v e.from its.0) (at_level v e.to its.1)) h.0))
 
   -- where the start of the difference rises, the raise has come round
-  pub raise_rises : (qs : List ℤ) → Attained (ds ++ (d ∷ [])) qs → number ps d.from <ℤ number qs d.from → NoRisingCircle (ds ++ (d ∷ [])) → ⊥
-  raise_rises qs has high flat' = by (once d through w.1)
+  pub raise_rises : (r : ℕ) (qs : List ℤ) → Mending v d r qs → number v.numbers.now d.from <ℤ number qs d.from → NoRisingCircle (with_one v d) → ⊥
+  raise_rises r qs m high flat = by (once d through w.1)
     where
-      through : NoRiseThrough ds d
-      through = level_from ds d flat'
+      through : NoRiseThrough v.held.now d
+      through = level_from v.held.now d flat
 
-      w : (x : ℕ) × Walk (ds ++ (d ∷ [])) x d.from (number qs d.from)
-      w = has d.from among.0
+      w : (x : ℕ) × Walk (with_one v d) x d.from (number qs d.from)
+      w = m.has d.from own.0.0
 
-      g : Greatest ds d.from (number ps d.from)
-      g = at d.from among.0
+      g : Greatest v.held.now d.from (number v.numbers.now d.from)
+      g = at_level v d.from own.0.0
 
-      by : (Avoids ds w.0 d.from (number qs d.from) ⊎ Through ds d w.0 d.from (number qs d.from)) → ⊥
+      by : (Avoids v.held.now w.0 d.from (number qs d.from) ⊎ Through v.held.now d w.0 d.from (number qs d.from)) → ⊥
       by (inl a) = let l = g.most w.0 a.total a.whole in omega (arith, ints, a.above)
       by (inr a) = let l = g.most w.0 a.before a.front in let k = through a.after a.back in omega (arith, ints, a.above)
 
-  pub mending_none : (before : ℤ) (qs : List ℤ) → length ps ≡ 96 → number ps d.to ≤ℤ (number ps d.from +ℤ d.k) → before ≡ number ps d.from → qs ≡ set ps d.to (number ps d.from +ℤ d.k) → Mending ds d ps 0 before qs
-  mending_none before qs long unmet same e = subst (Mending ds d ps 0 before) (sym e) begun
-    where
-      v : ℤ
-      v = number ps d.from +ℤ d.k
+  -- the first raise is a pass over the new difference alone
+  pub mending_none : (qs : List ℤ) → length qs ≡ 96 → Relaxed d v.numbers.now qs true → Mending v d 0 qs
+  mending_none qs long h =
+      let sized : length v.numbers.now ≡ 96 = omega (arith, ap length h.1, length-set v.numbers.now d.to (number v.numbers.now d.from +ℤ d.k)) in
+      let p = (passed_more [] v.numbers.now v.numbers.now false (passed_none v.numbers.now sized) d qs true own h).1 in
+      record {
+        high = p.ceiling 95000 (λ y low. (near v y low).1);
+        has = p.attained (with_one v d) (each_push (λ e. In e (with_one v d)) [] d (λ e i. absurd i) (in_last v.held.now d)) attained_more;
+        cover = covers_none (with_one v d) qs (λ y low. let l = near v y low in let k = p.up y low in omega (arith, ints));
+        risen = λ past. absurd (omega arith);
+        met = p.met d (inl refl);
+      }
 
-      place : d.to < length ps
-      place = omega (arith, among.1)
-
-      floor : Floor (set ps d.to v)
-      floor y low = set_each ps d v place (λ z w. pos 0 ≤ℤ w) y (greatest_low (at y low)) (λ e. let l = greatest_low (at d.to among.1) in omega (arith, ints))
-
-      begun : Mending ds d ps 0 before (set ps d.to v)
-      begun =
-          record {
-            sized = length-set ps d.to v ∙ long;
-            low = floor;
-            high = λ y low. set_each ps d v place (λ z w. w ≤ℤ pos 96000) y (let l = greatest_high 96 (lit≤ tt) low ok flat (at y low) in omega (arith, ints)) (λ e. let l = greatest_high 96 (lit≤ tt) among.0 ok flat (at d.from among.0) in omega (arith, ints, small.1));
-            has = λ y low. set_each ps d v place (λ z w. (x : ℕ) × Walk (ds ++ (d ∷ [])) x z w) y (attained_more y low) (λ e. let w = attained_more d.from among.0 in subst (λ z. (x : ℕ) × Walk (ds ++ (d ∷ [])) x z v) (sym e) (w.0, join w.1 (arc d (in_last ds d))));
-            cover = covers_none (ds ++ (d ∷ [])) (set ps d.to v) floor;
-            risen = λ past. absurd (omega arith);
-            start = set_each ps d v place (λ z w. number ps z ≤ℤ w) d.from (omega (arith, ints)) (λ e. let l : number ps d.from ≡ number ps d.to = ap (number ps) e in omega (arith, ints));
-            same = same;
-            met = subst (λ w. v ≤ℤ w) (sym (set_here ps d v place)) (omega (arith, ints));
-          }
-
-  module _ (r : ℕ) (before : ℤ) (old new : List ℤ) (m : Mending ds d ps r before old) (few_held : length ds ≤ 1100) (still_there : number old d.from ≡ before) where
+  module _ (r : ℕ) (old new : List ℤ) (m : Mending v d r old) (still : number old d.from ≤ℤ number v.numbers.now d.from) where
     -- a pass over the held differences passes over the new one too, since its start has not risen
-    passed_whole : (c : Bool) → Passed ds old new c → Passed (ds ++ (d ∷ [])) old new c
-    passed_whole c p =
-        let to_up = p.up d.to among.1 in
-        record {
-          sized = p.sized;
-          up = p.up;
-          met = λ e h. elim (in_push ds d e h) [
-            | inl i ↦ p.met e i
-            | inr i ↦ subst (λ z. (number old z.from +ℤ z.k) ≤ℤ number new z.to) (sym i) (omega (arith, ints, m.met, m.same))
-          ];
-          told = p.told;
-          attained = λ all part. p.attained all (λ e i. part e (in_longer ds (d ∷ []) e i));
-          ceiling = λ b h y low. let l = p.ceiling b h y low in let one = length_push ds d in omega (arith, ints);
-        }
+    passed_whole : (c : Bool) → Passed v.held.now old new c → Passed (with_one v d) old new c
+    passed_whole c p = passed_met v.held.now old new c p d (let up = p.up d.to own.0.1 in omega (arith, ints, m.met))
 
-    pub mending_more : Passed ds old new true → Mending ds d ps (r + 1) before new
+    pub mending_more : Passed v.held.now old new true → Mending v d (r + 1) new
     mending_more p =
         let q = passed_whole true p in
-        let to_up = p.up d.to among.1 in
-        let from_up = p.up d.from among.0 in
+        let up = p.up d.to own.0.1 in
         record {
-          sized = p.sized;
-          low = λ y low. let l = m.low y low in let k = p.up y low in omega (arith, ints);
-          high = λ y low. let l = p.ceiling (96000 + 1101000 * r) m.high y low in omega (arith, ints);
-          has = q.attained (ds ++ (d ∷ [])) (λ e i. i) m.has;
-          cover = covers_more (ds ++ (d ∷ [])) r old new true lawful_more m.low q m.cover;
-          risen = λ past. change_rises (ds ++ (d ∷ [])) r old new lawful_more past m.cover m.has q;
-          start = omega (arith, ints, m.start);
-          same = m.same;
+          high = λ y low. let l = p.ceiling (96000 + 1101000 * r) m.high y low in omega (arith, ints, v.few);
+          has = q.attained (with_one v d) (λ e i. i) m.has;
+          cover = covers_more (with_one v d) r old new true lawful_more q m.cover;
+          risen = λ past. change_rises (with_one v d) r old new lawful_more past m.cover m.has q;
           met = omega (arith, ints, m.met);
         }
 
-    pub mending_done : Passed ds old new false → NoRisingCircle (ds ++ (d ∷ [])) × Tops (ds ++ (d ∷ [])) new
+    pub mending_done : Passed v.held.now old new false → Settled (with_one v d) (Some new)
     mending_done p =
         let q = passed_whole false p in
-        let same : new ≡ old = p.told in
-        settled_met (ds ++ (d ∷ [])) new lawful_more (λ y low. let l = m.low y low in let k = p.up y low in omega (arith, ints)) (q.attained (ds ++ (d ∷ [])) (λ e i. i) m.has) (λ e h. subst (λ z. (number z e.from +ℤ e.k) ≤ℤ number new e.to) (sym same) (q.met e h))
+        let down = covers_floor (with_one v d) r old m.cover in
+        settled_met (with_one v d) new lawful_more (λ y low. let l = down y low in let k = p.up y low in omega (arith, ints)) (q.attained (with_one v d) (λ e i. i) m.has)
+        (λ e i. subst (λ z. (number z e.from +ℤ e.k) ≤ℤ number new e.to) (sym p.told) (q.met e i))
 
 -- ---- nothing held
 
-pub tops_none : (ps : List ℤ) → ((y : ℕ) → y < 96 → number ps y ≡ pos 0) → Tops [] ps
-tops_none ps zeros y low =
-    zeros y low ∙ greatest_same (record { start = y; walk = stay; most = λ x t w. still w }) (top_greatest 96 [] y low (λ d h. absurd h) flat_none)
+pub tops_zeros : (ds : List Difference) → ds ≡ [] → Tops ds (replicate 96 (pos 0))
+tops_zeros ds e y low =
+    get_or-replicate 96 y (pos 0) (pos 0) low
+    ∙ greatest_same (record { start = y; walk = stay; most = λ x t w. still w }) (top_greatest 96 [] y low (λ d h. absurd h) flat_none)
+    ∙ ap (λ z. top 96 z y) (sym e)

@@ -1,13 +1,21 @@
 -- Yards that say the same keep the same rules.
-use Rattle.std.proofs.Common.{◌≡◌, ℕ, ap, ◌∙◌, ap₂, arith}
+use Rattle.std.proofs.Common.{◌≡◌, ℕ, true, ap, ◌∙◌, ap₂, arith}
 use Rattle.net.specs.Walks.{Walk, last, then, NoCircle}
 use Rattle.listing.proofs.Agreeing.{start_same, same_turned}
 use Rattle.listing.specs.Yards.{Yard, start, Same}
 use Rattle.sheet.specs.Conflicts.{conflict}
 use Rattle.sheet.specs.Lawful.{Lawful, NoCircles, StartsApart, FirstCircle, SharesStart, FirstShared}
 use Rattle.sheet.specs.Movement.{arcs}
-use Rattle.sheet.proofs.Arcs.{arcs_carried}
+use Rattle.sheet.specs.Moving.{arcs_leads}
+use Rattle.listing.specs.declared.place.Destination.TheVariants.{Place, Out}
 use Rattle.sheet.proofs.Conflicting.{conflict_same, pairs_same}
+
+-- yards that say the same have the same arcs
+arcs_carried : (y z : Yard) → Same y z → (t a b : ℕ) → arcs y t a b ≡ true → arcs z t a b ≡ true
+unfolding arcs
+arcs_carried y z s t a b e =
+    let known = (arcs_leads y t a b e).known in
+    rw (s.places, s.owner a known, s.move a (Place b), s.move a Out) e
 
 module _ (y z : Yard) (s : Same y z) where
   walk_carried : (t : ℕ) {a b : ℕ} → Walk (arcs y t) a b → Walk (arcs z t) a b

@@ -1,21 +1,20 @@
 -- Bytes either are a sheet or get one refusal.
-use Rattle.std.proofs.Common.{◌≡◌, ℕ, ◌≤◌, true, ◌↔◌, List, is_ok, IfOk, Some, Ok, Err, Result, sym, refl, ap, subst, inl, inr, arith}
+use Rattle.std.proofs.Common.{IsErrAnd, ◌≡◌, ℕ, ◌≤◌, List, Ok, Err, Result, sym, refl, ap, subst, inl, inr, arith}
 use Rattle.std.proofs.lemmas.Bool.{cases_order}
-use Rattle.sheet.specs.Sheets.{yard}
 use Rattle.listing.specs.Bytes.{yard_in}
-use Rattle.listing.specs.Rules.{WellListed}
+use Rattle.listing.specs.Rules.{WellListed, StopsAt}
+use Rattle.listing.specs.declared.fault.ListingFault.{ListingFault}
 use Rattle.listing.specs.Yards.{Yard, Same}
 use Rattle.listing.proofs.Agreeing.{same_turned}
 use Rattle.listing.proofs.Exact.{shaped, apart, once}
 use Rattle.sheet.specs.Lawful.{NoCircles, StartsApart, FirstCircle, FirstShared}
-use Rattle.net.specs.Marks.{Cleared}
 use Rattle.listing.specs.Listings.{yard as listed_yard}
 use Rattle.listing.specs.declared.content.Listing.{Listing}
 use Rattle.sheet.specs.Admitting.{Admitted, Parsed}
 use Rattle.sheet.specs.declared.sheet.Sheet.{Sheet}
 use Rattle.sheet.proofs.Agreeing.{lawful_same, no_circles_same, starts_apart_same, first_circle_same, first_shared_same}
 use Rattle.sheet.proofs.Conflicting.{pairs_same}
-use Rattle.sheet.specs.Reading.{WellFormed, MarksLeft, fault_of, Refused, short_marks, not_listed, circular, start_shared, crowded}
+use Rattle.sheet.specs.Reading.{WellFormed, Refused, short_marks, not_listed, circular, start_shared, crowded}
 use Rattle.sheet.specs.declared.fault.SheetFault.{SheetFault}
 use Rattle.sheet.specs.declared.fault.SheetFault.TheVariants.{Walk, Listed, Circle, SharedStart, TooManyConflicts}
 use Rattle.sheet.proofs.Starts.{not_shared}
@@ -81,21 +80,10 @@ refused_once b m (crowded h l n s c) (circular {t = u} k l' d) = absurd (no_firs
 refused_once b m (crowded h l n s c) (start_shared {p = q} k l' n' r) = absurd (no_first_shared b q l s r)
 refused_once b m (crowded h l n s c) (crowded k l' n' r d) = refl
 
--- so an answer says which of the two it is, and what the sheet says
-pub accepted : (b : List ℕ) (m : ℕ) (r : Result Sheet SheetFault) → Parsed b m r → (is_ok r ≡ true) ↔ ((96 ≤ m) × WellFormed b)
-accepted b m (Ok s) o = (λ _. (o.0, o.1), λ _. refl)
-accepted b m (Err f) o = (λ e. let z : ◌≡◌ {A = ℕ} 0 1 = cc in absurd (omega arith), λ p. absurd (never_refused b m p.0 p.1 o))
-
-pub refused : (b : List ℕ) (m : ℕ) (r : Result Sheet SheetFault) → Parsed b m r → (g : SheetFault) → (fault_of r ≡ Some g) ↔ Refused b m g
-refused b m (Ok s) o g = (λ e. let z : ◌≡◌ {A = ℕ} 0 1 = cc in absurd (omega arith), λ r. absurd (never_refused b m o.0 o.1 r))
-refused b m (Err f) o g = (
-  λ e. let same : f ≡ g = cc in subst (λ x. Refused b m x) same o,
-  λ s. ap Some (refused_once b m o s),
-)
-
-pub content : (b : List ℕ) (m : ℕ) (r : Result Sheet SheetFault) → Parsed b m r → IfOk r (λ s. Same (yard_in b) (yard s))
-content b m (Ok s) o = o.2
-content b m (Err f) o = tt
+-- bytes that are not a listing are no sheet
+pub unlisted : (b : List ℕ) (m : ℕ) (f : ListingFault) (r : Result Sheet SheetFault) → IsErrAnd r (λ g. g ≡ Listed f) → 96 ≤ m → StopsAt b f → Parsed b m r
+unlisted b m f (Ok x) e h s = absurd e
+unlisted b m f (Err g) e h s = subst (λ k. Refused b m k) (sym e) (not_listed h s)
 
 -- content that is checked says of its bytes what it says of itself
 module _ (b : List ℕ) (m : ℕ) (h : 96 ≤ m) (w : WellListed b) (l : Listing) (s : Same (yard_in b) (listed_yard l)) where
@@ -116,11 +104,3 @@ module _ (b : List ℕ) (m : ℕ) (h : 96 ≤ m) (w : WellListed b) (l : Listing
   parsed (Err TooManyConflicts) a =
       crowded h w (no_circles_same (listed_yard l) (yard_in b) back a.0) (starts_apart_same (listed_yard l) (yard_in b) back a.1)
       (omega (arith, pairs_same (listed_yard l) (yard_in b) back, a.2))
-
-  pub marks_left : (before after : List ℕ) (r : Result Sheet SheetFault) → Admitted l r → Cleared before after → MarksLeft before after r
-  marks_left before after (Ok x) a k = k
-  marks_left before after (Err (Walk f)) a k = absurd a
-  marks_left before after (Err (Listed f)) a k = absurd a
-  marks_left before after (Err (Circle t)) a k = k
-  marks_left before after (Err (SharedStart p)) a k = k
-  marks_left before after (Err TooManyConflicts) a k = k

@@ -1,8 +1,7 @@
 pub mod Conflicting
-pub mod Arcs
-pub mod Walked
 pub mod Starts
 pub mod Agreeing
 pub mod Fresh
 pub mod Kept
+pub mod Chains
 pub mod Exact

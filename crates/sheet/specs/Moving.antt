@@ -1,5 +1,5 @@
 -- The laws of movement nets.
-use Rattle.std.specs.Prelude.{◌≡◌, ℕ, ◌+◌, ◌<◌, ◌≤◌, true, cond, ◌&&◌, pos, negsuc, ◌≤ℤ◌, ◌==◌, nat_lt, refl}
+use Rattle.std.specs.Prelude.{◌≡◌, ℕ, ◌+◌, ◌<◌, ◌≤◌, true, cond, ◌&&◌, pos, negsuc, ◌≤ℤ◌, ◌==◌, nat_lt, ◌↔◌, refl}
 use Rattle.std.proofs.Common.{sym, ◌∙◌, inl, inr, arith}
 use Rattle.std.proofs.Math.Path.{ap}
 use Rattle.std.proofs.lemmas.Bool.{and_parts, and_from, ltb-true, lt-ltb, le-ltb, eqb-true, eq-eqb, cases_lt, cond-true, cond-false, cond_both}
@@ -57,8 +57,16 @@ module _ (y : Yard) (shaped : Shaped y) where
       by (Place q) m e = omega (arith, (shaped.moves_stay a q m).0, shaped.places_ranged.1, e)
       by Out m e = omega (arith, shaped.owners_known a l.known, shaped.trains_ranged.1, l.own, e)
 
+-- the yard of a listing keeps the rules of its parts
+pub shaped : (l : Listing) → Shaped (yard l)
+shaped l = drawn (yard l) l.shaped
+
+-- so the test of a net tells its moves
+pub arcs_told : (l : Listing) (t a b : ℕ) → (arcs (yard l) t a b ≡ true) ↔ Leads (yard l) t a b
+arcs_told l t a b = (arcs_leads (yard l) t a b, leads_arcs (yard l) (shaped l) t a b)
+
 pub arcs_inside : (l : Listing) (t a b : ℕ) → arcs (yard l) t a b ≡ true → (a < 96) × (b < 96)
-arcs_inside l t a b e = leads_inside (yard l) (drawn (yard l) l.shaped) t a b (arcs_leads (yard l) t a b e)
+arcs_inside l t a b e = leads_inside (yard l) (shaped l) t a b (arcs_leads (yard l) t a b e)
 
 small : (n : ℕ) → n ≤ 64 → (negsuc 999 ≤ℤ pos n) × (pos n ≤ℤ pos 1000)
 small n h = (omega (arith, ints), omega (arith, ints))

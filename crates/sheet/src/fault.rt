@@ -2,10 +2,12 @@
 ghost use Rattle.std.specs.Prelude.{◌≡◌};
 ghost use Rattle.sheet.specs.declared.fault.TrainFault.TheVariants as train_faults;
 ghost use Rattle.sheet.specs.declared.fault.SheetFault.TheVariants as sheet_faults;
-ghost use Rattle.sheet.specs.Refusals.{told, told_train};
+ghost use Rattle.sheet.specs.Refusals.{told as told_sheet, told_train};
 
 use listing::fault::ListingFault;
-use net::fault::{Layer, Refusal, WalkFault};
+use net::fault::{Fault, Layer, Refusal, WalkFault};
+use std::error::Error;
+use std::fmt;
 
 // Why bytes are not a sheet.
 #[derive(Clone, Copy, Debug, PartialEq, Eq)]
@@ -35,10 +37,10 @@ impl From<ListingFault> for SheetFault {
     }
 }
 
-impl SheetFault {
-    pub fn refusal(&self) -> Refusal
-        ensures { result ≡ told self.now }
-    {
+impl Fault for SheetFault {
+    ghost told = { told_sheet };
+
+    fn refusal(&self) -> Refusal {
         let (number, place) = match *self {
             SheetFault::Walk(fault) => return fault.refusal(),
             SheetFault::Listed(fault) => return fault.refusal(),
@@ -53,6 +55,23 @@ impl SheetFault {
         }
     }
 }
+
+impl fmt::Display for SheetFault {
+    fn fmt<W: fmt::Write>(&self, f: &mut fmt::Formatter<W>) -> fmt::Result {
+        match self {
+            SheetFault::Walk(fault) => write!(f, "{fault}"),
+            SheetFault::Listed(fault) => write!(f, "{fault}"),
+            SheetFault::Circle(train) => write!(f, "the moves of train {train} form a circle"),
+            SheetFault::SharedStart(place) => write!(
+                f,
+                "two trains start on the same block; the lowest such start is place {place}"
+            ),
+            SheetFault::TooManyConflicts => f.write_str("more than 1000 pairs of places conflict"),
+        }
+    }
+}
+
+impl Error for SheetFault {}
 
 // Why a walk over the movement net of a train is refused.
 #[derive(Clone, Copy, Debug, PartialEq, Eq)]
@@ -69,10 +88,10 @@ impl From<WalkFault> for TrainFault {
     }
 }
 
-impl TrainFault {
-    pub fn refusal(&self) -> Refusal
-        ensures { result ≡ told_train self.now }
-    {
+impl Fault for TrainFault {
+    ghost told = { told_train };
+
+    fn refusal(&self) -> Refusal {
         match self {
             TrainFault::Walk(fault) => fault.refusal(),
             TrainFault::UnknownTrain(train) => Refusal {
@@ -83,3 +102,14 @@ impl TrainFault {
         }
     }
 }
+
+impl fmt::Display for TrainFault {
+    fn fmt<W: fmt::Write>(&self, f: &mut fmt::Formatter<W>) -> fmt::Result {
+        match self {
+            TrainFault::Walk(fault) => write!(f, "{fault}"),
+            TrainFault::UnknownTrain(train) => write!(f, "there is no train {train}"),
+        }
+    }
+}
+
+impl Error for TrainFault {}

@@ -1,5 +1,5 @@
 // The movement net of a train.
-ghost use Rattle.std.specs.Prelude.{◌≡◌, ℕ, ◌<◌, ◌≤◌, true, ◌↔◌};
+ghost use Rattle.std.specs.Prelude.{◌≡◌, ℕ, true, ◌↔◌};
 ghost use Rattle.std.proofs.Common.{lit≤};
 ghost use Rattle.listing.specs.Listings.{yard};
 ghost use Rattle.sheet.specs.Movement.{arcs, Leads, weighs as weighing};
@@ -18,50 +18,42 @@ pub struct MovementNet<'a> {
 
 impl<'a> MovementNet<'a> {
     // The net of a train of the listing; of an unknown train it has no arcs.
+    #[tactic(auto, using(crate::specs::Moving::arcs_told))]
     pub fn of(listing: &'a Listing, train: usize) -> MovementNet<'a>
         ensures content { result.listing.now ≡ listing.now }
         ensures train { result.train ≡ train }
         ensures moves { (a b : ℕ) → (arcs (yard result.listing.now) result.train a b ≡ true) ↔ Leads (yard listing.now) train a b }
     {
-        view(listing, train)
+        MovementNet { listing, train }
     }
-}
 
-fn view<'a>(listing: &'a Listing, train: usize) -> MovementNet<'a>
-    ensures content { result.listing.now ≡ listing.now }
-    ensures train { result.train ≡ train }
-    ensures moves { (a b : ℕ) → (arcs (yard result.listing.now) result.train a b ≡ true) ↔ Leads (yard listing.now) train a b }
-{
-    MovementNet { listing, train }
-}
-
-// Whether a move of the train leads from the one node to the other.
-fn leads(listing: &Listing, train: usize, from: usize, to: usize) -> bool
-    ensures { result ≡ arcs (yard listing.now) train from to }
-{
-    let Some(left) = listing.place(from) else {
-        return false;
-    };
-    if left.train != train {
-        return false;
+    // Whether a move of the train leads from the one node to the other.
+    #[tactic(auto, unfolding(crate::specs::Movement::arcs))]
+    fn leads(&self, from: usize, to: usize) -> bool
+        ensures { result ≡ arcs (yard self.now.listing.now) self.now.train from to }
+    {
+        let Some(left) = self.listing.place(from) else {
+            return false;
+        };
+        if left.train != self.train {
+            return false;
+        }
+        if to < MOST_PLACES {
+            return self.listing.has_move(from, Destination::Place(to));
+        }
+        to - MOST_PLACES == self.train && self.listing.has_move(from, Destination::Out)
     }
-    if to < MOST_PLACES {
-        return listing.has_move(from, Destination::Place(to));
-    }
-    to - MOST_PLACES == train && listing.has_move(from, Destination::Out)
-}
 
-// The blocks of the place entered that the place left lacks.
-fn blocks_entered(listing: &Listing, from: usize, to: usize) -> i32
-    ensures { result ≡ weighing (yard listing.now) from to }
-{
-    let Some(left) = listing.place(from) else {
-        return 0;
-    };
-    let Some(entered) = listing.place(to) else {
-        return 0;
-    };
-    entered.blocks.count_not_in(left.blocks) as i32
+    // The blocks of the place entered that the place left lacks.
+    #[tactic(auto, unfolding(crate::specs::Movement::weighs))]
+    fn blocks_entered(&self, from: usize, to: usize) -> i32
+        ensures { result ≡ weighing (yard self.now.listing.now) from to }
+    {
+        match (self.listing.place(from), self.listing.place(to)) {
+            (Some(left), Some(entered)) => entered.blocks.count_not_in(left.blocks).cast_signed(),
+            _ => 0,
+        }
+    }
 }
 
 impl Net for MovementNet<'_> {
@@ -78,7 +70,7 @@ impl Net for MovementNet<'_> {
     }
 
     fn has_arc(&self, from: usize, to: usize) -> bool {
-        leads(self.listing, self.train, from, to)
+        self.leads(from, to)
     }
 }
 
@@ -88,6 +80,6 @@ impl WeightedNet for MovementNet<'_> {
     ghost limited = { λ n a b. weighs_limited (yard n.listing.now) a b };
 
     fn weight(&self, from: usize, to: usize) -> i32 {
-        blocks_entered(self.listing, from, to)
+        self.blocks_entered(from, to)
     }
 }

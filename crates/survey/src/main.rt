@@ -1,24 +1,20 @@
 #![tactic(auto)]
 
 // Reads the sheet of a yard, checks every rule, and prints what it found.
-mod words;
-
+use net::fault::Fault;
+use net::nets::MOST_NODES;
 use sheet::fault::SheetFault;
 use sheet::sheet::Sheet;
 use std::fs;
 use std::io::ErrorKind;
 
 fn main(rt: HostRuntime) -> anyhow::Result<()> {
-    run(&rt)
-}
-
-fn run(rt: &HostRuntime) -> anyhow::Result<()> {
-    let input = yard_bytes(rt)?;
+    let input = yard_bytes(&rt)?;
     let mut yard = Sheet::new();
-    let mut marks = [0; 96];
+    let mut marks = [0; MOST_NODES];
     match yard.read(&input, &mut marks) {
-        Ok(()) => describe(rt, &yard, &mut marks),
-        Err(fault) => refuse(rt, &fault),
+        Ok(()) => describe(&rt, &yard, &mut marks),
+        Err(fault) => refuse(&rt, &fault),
     }
 }
 
@@ -26,21 +22,15 @@ fn run(rt: &HostRuntime) -> anyhow::Result<()> {
 fn yard_bytes(rt: &HostRuntime) -> anyhow::Result<Vec<u8>> {
     match fs::read(rt, "yard.sheet") {
         Ok(bytes) => Ok(bytes),
-        Err(e) => {
-            if e.kind() == ErrorKind::NotFound {
-                return Ok(Vec::new(rt.alloc()));
-            }
-            Err(e.into())
-        }
+        Err(e) if e.kind() == ErrorKind::NotFound => Ok(Vec::new(rt.alloc())),
+        Err(e) => Err(e.into()),
     }
 }
 
 fn refuse(rt: &HostRuntime, fault: &SheetFault) -> anyhow::Result<()> {
-    let refusal = fault.refusal();
-    let number = refusal.number;
-    let place = refusal.place;
-    println!(rt; "refused {number} at {place}")?;
-    words::explain(rt, fault)
+    println!(rt; "{}", fault.refusal())?;
+    println!(rt; "{fault}")?;
+    Ok(())
 }
 
 fn describe(rt: &HostRuntime, yard: &Sheet, marks: &mut [u8]) -> anyhow::Result<()> {
@@ -68,16 +58,10 @@ fn describe_train(
     };
     let places = yard.places_of(train);
     match yard.longest_way(marks, train, start) {
-        Ok(blocks) => {
-            println!(rt;
-                "train {train}: starts at place {start}, has {places} places, longest way enters {blocks} blocks"
-            )?;
-            Ok(())
-        }
-        Err(fault) => {
-            let number = fault.refusal().number;
-            println!(rt; "train {train}: refused {number}")?;
-            Ok(())
-        }
+        Ok(blocks) => println!(rt;
+            "train {train}: starts at place {start}, has {places} places, longest way enters {blocks} blocks"
+        )?,
+        Err(fault) => println!(rt; "train {train}: refused {}", fault.refusal().number)?,
     }
+    Ok(())
 }

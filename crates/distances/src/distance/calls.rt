@@ -6,7 +6,8 @@ ghost use Rattle.distances.specs.Engines.{state_of, sound_of, Closing};
 
 use crate::distance::DistanceEngine;
 use crate::level::LevelList;
-use crate::table::{PLACES, highest, raise, rebuild, rises, sum_at};
+use crate::table::Table;
+use crate::way::rises;
 use engine::difference::Difference;
 use engine::engine::DifferenceEngine;
 use engine::fault::EngineFault;
@@ -17,8 +18,8 @@ impl DistanceEngine {
         ensures { ((state_of result).events ≡ 1) × ((state_of result).held ≡ []) }
     {
         let list = LevelList::new();
-        let mut table = [None; PLACES];
-        rebuild(&mut table, &list);
+        let mut table = Table::new();
+        table.rebuild(&list);
         DistanceEngine { list, table }
     }
 
@@ -27,8 +28,7 @@ impl DistanceEngine {
         requires { Admitted difference (state_of self.now).events (length (state_of self.now).held) }
         ensures { Closing (state_of self.now).held difference result }
     {
-        let events = self.list.differences.events();
-        let back = sum_at(&self.table, events, difference.to, difference.from);
+        let back = self.table.sum(difference.to, difference.from);
         rises(back, difference.k)
     }
 
@@ -38,8 +38,7 @@ impl DistanceEngine {
         ensures { Added difference (state_of self.old) (state_of self.new) result }
     {
         self.list.push(difference)?;
-        let events = self.list.differences.events();
-        raise(&mut self.table, events, difference);
+        self.table.raise(difference);
         Ok(())
     }
 
@@ -48,7 +47,7 @@ impl DistanceEngine {
         requires { event < (state_of self.now).events }
         ensures { Numbered event (state_of self.now) (Ok result) }
     {
-        highest(&self.table, self.list.differences.events(), event)
+        self.table.highest(event)
     }
 }
 
@@ -59,7 +58,7 @@ impl DifferenceEngine for DistanceEngine {
 
     fn wipe(&mut self, events: usize) -> Result<(), EngineFault> {
         self.list.wipe(events)?;
-        rebuild(&mut self.table, &self.list);
+        self.table.rebuild(&self.list);
         Ok(())
     }
 
@@ -73,7 +72,7 @@ impl DifferenceEngine for DistanceEngine {
 
     fn drop_newest(&mut self) -> Result<(), EngineFault> {
         self.list.pop()?;
-        rebuild(&mut self.table, &self.list);
+        self.table.rebuild(&self.list);
         Ok(())
     }
 

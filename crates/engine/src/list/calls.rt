@@ -1,9 +1,10 @@
 // How a difference list grows and shrinks, with the checks that need no look at circles.
-ghost use Rattle.std.specs.Prelude.{◌≡◌, ◌<◌, [], ◌∷◌, ◌++◌, length};
-ghost use Rattle.engine.specs.States.{Admission, Admitted};
+ghost use Rattle.std.specs.Prelude.{length};
+ghost use Rattle.engine.specs.Circles.{Among, Small};
+ghost use Rattle.engine.specs.States.{Admission};
 ghost use Rattle.engine.specs.Lists.{held_in, ListWiped, Pushed, Popped};
 
-use crate::difference::{Difference, MOST_EVENTS, MOST_HELD, MOST_K};
+use crate::difference::{Difference, MOST_EVENTS, MOST_K};
 use crate::fault::EngineFault;
 use crate::list::DifferenceList;
 
@@ -16,7 +17,7 @@ impl DifferenceList {
             return Err(EngineFault::EventOutOfRange);
         }
         self.events = events;
-        self.count = 0;
+        self.entries.clear();
         Ok(())
     }
 
@@ -30,7 +31,7 @@ impl DifferenceList {
         if difference.k < -MOST_K || difference.k > MOST_K {
             return Err(EngineFault::KOutOfRange);
         }
-        if self.count >= MOST_HELD {
+        if self.entries.is_full() {
             return Err(EngineFault::Full);
         }
         Ok(())
@@ -41,35 +42,29 @@ impl DifferenceList {
         ensures { Pushed difference self.old self.new result }
     {
         self.admit(difference)?;
-        self.append(difference);
-        Ok(())
+        self.append(difference)
     }
 
-    fn append(&mut self, difference: Difference)
-        requires { Admitted difference self.old.events (length (held_in self.old)) }
-        ensures events { self.new.events ≡ self.old.events }
-        ensures held { held_in self.new ≡ held_in self.old ++ (difference ∷ []) }
+    fn append(&mut self, difference: Difference) -> Result<(), EngineFault>
+        requires among { Among self.old.events difference }
+        requires small { Small difference }
+        ensures { Pushed difference self.old self.new result }
     {
-        self.entries[self.count] = difference;
-        self.count += 1;
+        self.entries.push(difference)?;
+        Ok(())
     }
 
     // Lets the newest go.
     pub fn pop(&mut self) -> Result<(), EngineFault>
         ensures { Popped self.old self.new result }
     {
-        if self.count == 0 {
-            return Err(EngineFault::NoneHeld);
-        }
-        self.shorten();
-        Ok(())
+        self.shorten()
     }
 
-    fn shorten(&mut self)
-        requires { 0 < self.old.count }
-        ensures events { self.new.events ≡ self.old.events }
-        ensures held { (d : Difference) × (held_in self.old ≡ held_in self.new ++ (d ∷ [])) }
+    fn shorten(&mut self) -> Result<(), EngineFault>
+        ensures { Popped self.old self.new result }
     {
-        self.count -= 1;
+        self.entries.pop().ok_or(EngineFault::NoneHeld)?;
+        Ok(())
     }
 }

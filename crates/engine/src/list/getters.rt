@@ -3,10 +3,12 @@ ghost use Rattle.std.specs.Prelude.{◌≡◌, [], length};
 ghost use Rattle.engine.specs.States.{Found};
 ghost use Rattle.engine.specs.Lists.{held_in};
 
-use crate::difference::{Difference, MOST_HELD};
+use crate::difference::Difference;
 use crate::fault::EngineFault;
 use crate::list::DifferenceList;
+use bounded::list::BoundedList;
 
+// What stands in the entries that hold nothing.
 const NO_DIFFERENCE: Difference = Difference {
     from: 0,
     to: 0,
@@ -20,8 +22,7 @@ impl DifferenceList {
     {
         DifferenceList {
             events: 1,
-            count: 0,
-            entries: [NO_DIFFERENCE; MOST_HELD],
+            entries: BoundedList::new(NO_DIFFERENCE),
         }
     }
 
@@ -34,23 +35,20 @@ impl DifferenceList {
     pub fn len(&self) -> usize
         ensures { result ≡ length (held_in self.now) }
     {
-        self.count
+        self.entries.len()
     }
 
     // The held differences, the newest last.
     pub fn held(&self) -> &[Difference]
         ensures { result.now ≡ held_in self.now }
     {
-        &self.entries[..self.count]
+        self.entries.as_slice()
     }
 
     // The difference at a place of the list.
     pub fn at(&self, place: usize) -> Result<Difference, EngineFault>
         ensures { Found place (held_in self.now) result }
     {
-        match self.held().get(place) {
-            Some(difference) => Ok(*difference),
-            None => Err(EngineFault::NoneHeld),
-        }
+        self.held().get(place).copied().ok_or(EngineFault::NoneHeld)
     }
 }

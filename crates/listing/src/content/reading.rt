@@ -1,105 +1,95 @@
 // A listing from a sheet's bytes.
 ghost use Rattle.std.specs.Prelude.{◌≡◌, ◌<◌, ◌≤◌, true, ◌↔◌, length, is_ok, IfOk, Err, slice_index_or};
+ghost use Rattle.bounded.specs.Items.{items};
 ghost use Rattle.listing.specs.declared.fault.ListingFault.{ListingFault as Fault};
 ghost use Rattle.listing.specs.Scans.{Each};
 ghost use Rattle.listing.specs.Yards.{Same};
-ghost use Rattle.listing.specs.Tables.{no_place, no_move};
 ghost use Rattle.listing.specs.Listings.{yard};
 ghost use Rattle.listing.specs.Bytes.{yard_in, listed, set_at, end_at, PlaceIn, MoveIn};
 ghost use Rattle.listing.specs.Order.{AllHold};
-ghost use Rattle.listing.specs.Rules.{Holds, rules, WellListed, StopsAt, Checked};
+ghost use Rattle.listing.specs.Rules.{Holds, rules, WellListed, StopsAt};
 
-use crate::bytes;
+use crate::bytes::Input;
 use crate::check::check;
 use crate::content::Listing;
 use crate::fault::ListingFault;
 use crate::place::{Destination, Move, Place};
 use blocks::Blocks;
+use bounded::list::BoundedList;
 
-fn place_at(input: &[u8], place: usize) -> Place
+fn place_at(input: &Input<'_>, place: usize) -> Place
     requires sized { place < (yard_in input.now).places }
     requires few { (yard_in input.now).places ≤ 84 }
     requires there { set_at input.now (yard_in input.now).places ≤ length input.now }
     ensures { PlaceIn input.now place result }
 {
     Place {
-        train: bytes::owner(input, place),
-        blocks: Blocks::from_bits(bytes::blocks(input, place)),
+        train: input.owner(place),
+        blocks: Blocks::from_bits(input.blocks(place)),
     }
 }
 
-fn places_in(input: &[u8]) -> [Place; 84]
-    requires few { (yard_in input.now).places ≤ 84 }
-    requires sized { 2 ≤ length input.now }
-    requires there { set_at input.now (yard_in input.now).places ≤ length input.now }
-    ensures { Each (yard_in input.now).places (λ p. PlaceIn input.now p (slice_index_or result p no_place)) }
-{
-    let mut places = [Place {
-        train: 0,
-        blocks: Blocks::from_bits(0),
-    }; 84];
-    for p in 0..bytes::places(input) {
-        places[p] = place_at(input, p);
-    }
-    places
-}
-
-fn move_at(input: &[u8], index: usize) -> Move
+fn move_at(input: &Input<'_>, index: usize) -> Move
     requires sized { index < listed input.now }
+    requires few { listed input.now ≤ 200 }
     requires there { end_at input.now ≤ length input.now }
     ensures { MoveIn input.now index result }
 {
-    let to = bytes::to(input, index);
     Move {
-        from: bytes::from(input, index),
-        to: if to == bytes::OUT {
-            Destination::Out
-        } else {
-            Destination::Place(to)
-        },
+        from: input.from(index),
+        to: input.to(index),
     }
 }
 
-fn moves_in(input: &[u8]) -> [Move; 200]
-    requires few { listed input.now ≤ 200 }
-    requires there { end_at input.now ≤ length input.now }
-    ensures { Each (listed input.now) (λ m. MoveIn input.now m (slice_index_or result m no_move)) }
+// The items from number 0 up to below a count, in order.
+fn listed_items<T: Copy, const N: usize, F: Fn(usize) -> T>(
+    count: usize,
+    blank: T,
+    item: F,
+) -> BoundedList<T, N>
+    requires few { count ≤ N }
+    requires callable { Each count (F.pre item) }
+    ensures size { length (items result) ≡ count }
+    ensures each { (d : T) → Each count (λ i. F.post item i (slice_index_or (items result) i d)) }
 {
-    let mut moves = [Move {
-        from: 0,
-        to: Destination::Out,
-    }; 200];
-    for m in 0..bytes::moves(input) {
-        moves[m] = move_at(input, m);
+    let mut list = BoundedList::new(blank);
+    // a bounded list is filled by pushes
+    for i in 0..count {
+        list.push(item(i)).unwrap();
     }
-    moves
+    list
 }
 
 // What bytes that keep the rules say.
-fn listing_in(input: &[u8]) -> Listing
+fn listing_in(input: &Input<'_>) -> Listing
     requires { AllHold (Holds input.now) rules }
     ensures { Same (yard_in input.now) (yard result) }
 {
+    let no_place = Place {
+        train: 0,
+        blocks: Blocks::from_bits(0),
+    };
+    let no_move = Move {
+        from: 0,
+        to: Destination::Out,
+    };
+    let places = listed_items(input.places(), no_place, |place| place_at(input, place));
+    let moves = listed_items(input.moves(), no_move, |index| move_at(input, index));
     Listing {
-        train_count: bytes::trains(input),
-        place_count: bytes::places(input),
-        places: places_in(input),
-        move_count: bytes::moves(input),
-        moves: moves_in(input),
+        train_count: input.trains(),
+        places,
+        moves,
     }
 }
 
-// What the bytes say, if the check of all rules went well.
-fn listing_after(verdict: Result<(), ListingFault>, input: &[u8]) -> Result<Listing, ListingFault>
-    requires { Checked input.now rules verdict }
+// What the bytes say, or the first rule that they break.
+fn read_from(input: &Input<'_>) -> Result<Listing, ListingFault>
     ensures accepted { (is_ok result ≡ true) ↔ WellListed input.now }
     ensures refused { (f : Fault) → (result ≡ Err f) ↔ StopsAt input.now f }
     ensures content { IfOk result (λ l. Same (yard_in input.now) (yard l)) }
 {
-    match verdict {
-        Ok(()) => Ok(listing_in(input)),
-        Err(fault) => Err(fault),
-    }
+    check(input)?;
+    Ok(listing_in(input))
 }
 
 impl Listing {
@@ -109,6 +99,6 @@ impl Listing {
         ensures refused { (f : Fault) → (result ≡ Err f) ↔ StopsAt input.now f }
         ensures content { IfOk result (λ l. Same (yard_in input.now) (yard l)) }
     {
-        listing_after(check(input), input)
+        read_from(&Input(input))
     }
 }

@@ -6,51 +6,39 @@ ghost use Rattle.engine.specs.States.{Added, Admitted, Dropped, Near, Wiped};
 ghost use Rattle.potentials.specs.Numbers.{Settled, Tops};
 ghost use Rattle.potentials.specs.States.{state_of, sound_of};
 
-use crate::numbers::{settle, zeros};
+use crate::numbers::Level;
 use crate::potential::PotentialEngine;
-use engine::difference::{Difference, MOST_EVENTS, MOST_HELD};
+use bounded::list::BoundedList;
+use engine::difference::{Difference, MOST_EVENTS};
 use engine::engine::DifferenceEngine;
 use engine::fault::EngineFault;
 use engine::list::DifferenceList;
 
 impl PotentialEngine {
     // One event, and nothing held.
+    #[tactic(auto, using(crate::proofs::Passes::tops_zeros))]
     pub fn new() -> PotentialEngine
         ensures { ((state_of result).events ≡ 1) × ((state_of result).held ≡ []) }
     {
-        PotentialEngine::over(DifferenceList::new(), zeros())
-    }
-
-    // An engine over a list that holds nothing.
-    fn over(list: DifferenceList, numbers: [i32; MOST_EVENTS]) -> PotentialEngine
-        requires empty { held_in list ≡ [] }
-        requires told { Tops [] numbers }
-        ensures { result.list ≡ list }
-    {
         PotentialEngine {
-            list,
-            numbers,
-            snapshots: [numbers; MOST_HELD],
+            list: DifferenceList::new(),
+            numbers: [0; MOST_EVENTS],
+            snapshots: BoundedList::new([0; MOST_EVENTS]),
         }
     }
 
-    fn restart(&mut self, events: usize) -> Result<(), EngineFault>
-        ensures { Wiped events (state_of self.old) (state_of self.new) result }
+    // What the engine holds, with its numbers.
+    fn level(&self) -> Level<'_>
+        ensures { result.held.now ≡ held_in self.now.list }
     {
-        self.list.wipe(events)?;
-        self.numbers = zeros();
-        Ok(())
-    }
-
-    // The numbers with one difference more, or none where a circle rises with it.
-    fn numbers_with(&self, difference: Difference) -> Option<[i32; MOST_EVENTS]>
-        requires { Admitted difference self.now.list.events (length (held_in self.now.list)) }
-        ensures { Settled (held_in self.now.list ++ (difference ∷ [])) result }
-    {
-        settle(&self.numbers, self.list.held(), difference)
+        Level {
+            numbers: &self.numbers,
+            held: self.list.held(),
+        }
     }
 
     // Holds a difference more, with the numbers that are right then.
+    #[tactic(auto, using(crate::proofs::Snapshots::before_at))]
     fn hold(
         &mut self,
         difference: Difference,
@@ -60,9 +48,9 @@ impl PotentialEngine {
         requires told { Tops (held_in self.old.list ++ (difference ∷ [])) numbers }
         ensures { Added difference (state_of self.old) (state_of self.new) result }
     {
-        let place = self.list.len();
         self.list.push(difference)?;
-        self.snapshots[place] = self.numbers;
+        // the list had room, so there is room for a snapshot
+        self.snapshots.push(self.numbers).unwrap();
         self.numbers = numbers;
         Ok(())
     }
@@ -71,19 +59,8 @@ impl PotentialEngine {
     fn release(&mut self) -> Result<(), EngineFault>
         ensures { Dropped (state_of self.old) (state_of self.new) result }
     {
-        self.list.pop()?;
-        let before = self.snapshots[self.list.len()];
-        self.numbers = before;
-        Ok(())
-    }
-
-    fn number_of(&self, event: usize) -> i32
-        requires { event < self.now.list.events }
-        ensures value { result ≡ (state_of self.now).number event }
-        ensures near { Near result }
-        ensures meets { Meets (state_of self.now).number (state_of self.now).held }
-    {
-        self.numbers[event]
+        self.numbers = self.snapshots.pop().ok_or(EngineFault::NoneHeld)?;
+        self.list.pop()
     }
 }
 
@@ -92,16 +69,21 @@ impl DifferenceEngine for PotentialEngine {
 
     ghost sound = { sound_of };
 
+    #[tactic(auto, using(crate::proofs::Passes::tops_zeros, crate::proofs::Snapshots::before_at))]
     fn wipe(&mut self, events: usize) -> Result<(), EngineFault> {
-        self.restart(events)
+        self.list.wipe(events)?;
+        self.snapshots.clear();
+        self.numbers = [0; MOST_EVENTS];
+        Ok(())
     }
 
     fn add(&mut self, difference: Difference) -> Result<(), EngineFault> {
         self.list.admit(difference)?;
-        match self.numbers_with(difference) {
-            Some(numbers) => self.hold(difference, numbers),
-            None => Err(EngineFault::RisingCircle),
-        }
+        let numbers = self
+            .level()
+            .settle(difference)
+            .ok_or(EngineFault::RisingCircle)?;
+        self.hold(difference, numbers)
     }
 
     fn drop_newest(&mut self) -> Result<(), EngineFault> {
@@ -120,10 +102,11 @@ impl DifferenceEngine for PotentialEngine {
         self.list.at(place)
     }
 
+    #[tactic(auto, using(crate::proofs::Snapshots::number_told))]
     fn number(&self, event: usize) -> Result<i32, EngineFault> {
         if event >= self.event_count() {
             return Err(EngineFault::EventOutOfRange);
         }
-        Ok(self.number_of(event))
+        Ok(self.numbers[event])
     }
 }

@@ -19,6 +19,7 @@ use net::nets::MOST_NODES;
 
 impl Sheet {
     // One train in block 0 with one move, out.
+    #[tactic(auto, using(crate::proofs::Fresh::lawful_as_fresh))]
     pub fn new() -> Sheet
         ensures { Same fresh (yard result) }
     {
@@ -35,6 +36,7 @@ impl Sheet {
     }
 
     // Whether two places belong to different trains and share a block.
+    #[tactic(auto, using(crate::proofs::Conflicting::conflict_told, crate::proofs::Conflicting::conflict_turned))]
     pub fn conflict(&self, first: usize, second: usize) -> bool
         ensures value { result ≡ conflict (yard self.now) first second }
         ensures law { (result ≡ true) ↔ Conflict (yard self.now) first second }
@@ -82,14 +84,12 @@ impl Sheet {
         Ok(self.longest_from(marks, train, from)?)
     }
 
-    // The same for a known train.
+    // The same for a known train. The net of a train of a sheet has no circle, so there is a longest way.
+    #[tactic(auto, using(crate::proofs::Kept::no_circle))]
     fn longest_from(&self, marks: &mut [u8], train: usize, from: usize) -> Result<i32, WalkFault>
         requires { train < (yard self.now).trains }
         ensures { LongestKnown (yard self.now) train from marks.old marks.new result }
     {
-        match longest_way(&MovementNet::of(&self.listing, train), marks, from)? {
-            Some(sum) => Ok(sum),
-            None => unreachable(),
-        }
+        Ok(longest_way(&MovementNet::of(&self.listing, train), marks, from)?.unwrap())
     }
 }

@@ -1,10 +1,10 @@
 // A sheet from its bytes.
-ghost use Rattle.std.specs.Prelude.{◌≡◌, ◌≤◌, true, false, ◌↔◌, length, is_ok, IfOk, Some, OnOk};
+ghost use Rattle.std.specs.Prelude.{◌≡◌, ◌≤◌, true, false, ◌↔◌, length, is_ok, Some, OnOk};
 ghost use Rattle.net.specs.Marks.{Cleared};
 ghost use Rattle.listing.specs.Bytes.{yard_in};
 ghost use Rattle.listing.specs.Yards.{Same};
 ghost use Rattle.sheet.specs.declared.fault.SheetFault.{SheetFault as Fault};
-ghost use Rattle.sheet.specs.Admitting.{Admitted};
+ghost use Rattle.sheet.specs.Admitting.{Admitted, Parsed};
 ghost use Rattle.sheet.specs.Reading.{WellFormed, Refused, MarksLeft, fault_of};
 ghost use Rattle.sheet.specs.Sheets.{yard};
 
@@ -21,6 +21,7 @@ const MOST_CONFLICTS: usize = 1000;
 
 impl Sheet {
     // Reads bytes into the sheet; a refusal leaves it as before.
+    #[tactic(auto, using(crate::proofs::Exact::never_refused, crate::proofs::Exact::refused_once))]
     pub fn read(&mut self, input: &[u8], marks: &mut [u8]) -> Result<(), SheetFault>
         ensures accepted { (is_ok result ≡ true) ↔ ((96 ≤ length marks.old) × WellFormed input.now) }
         ensures refused { (f : Fault) → (fault_of result ≡ Some f) ↔ Refused input.now (length marks.old) f }
@@ -28,20 +29,14 @@ impl Sheet {
         ensures kept { is_ok result ≡ false → self.new ≡ self.old }
         ensures marks { MarksLeft marks.old marks.new result }
     {
-        match Sheet::parse(input, marks) {
-            Ok(sheet) => {
-                *self = sheet;
-                Ok(())
-            }
-            Err(fault) => Err(fault),
-        }
+        *self = Sheet::parse(input, marks)?;
+        Ok(())
     }
 
     // The sheet that bytes say.
+    #[tactic(auto, using(crate::specs::Reading::short_marks, crate::proofs::Exact::parsed))]
     fn parse(input: &[u8], marks: &mut [u8]) -> Result<Sheet, SheetFault>
-        ensures accepted { (is_ok result ≡ true) ↔ ((96 ≤ length marks.old) × WellFormed input.now) }
-        ensures refused { (f : Fault) → (fault_of result ≡ Some f) ↔ Refused input.now (length marks.old) f }
-        ensures content { IfOk result (λ s. Same (yard_in input.now) (yard s)) }
+        ensures answer { Parsed input.now (length marks.old) result }
         ensures marks { MarksLeft marks.old marks.new result }
     {
         if marks.len() < MOST_NODES {

@@ -1,15 +1,7 @@
 use Rattle.std.proofs.lemmas.Result.{err_from_is_err_and}
 use Rattle.engine.proofs.Fronts.{no_difference}
-use Rattle.engine.proofs.Several.{reached_none, reached_more, reached_all, stopped}
+use Rattle.engine.proofs.Several.{reached_all, stopped}
 use Rattle.engine.proofs.together.add_in_order.Goals as goal
-
-pub loop-difference-init : goal.loop-difference-init
-loop-difference-init g c = reached_none _ _
-
-pub loop-difference-preserved : goal.loop-difference-preserved
-loop-difference-preserved g c =
-    reached_more _ _ _ _ (g.E.DifferenceEngine.sound c.loop-difference.engine) c.loop-difference.invariant c.loop-difference-test.true no_difference _
-    c.in_ok-add.ensures
 
 pub returns-in_err-add : goal.returns-in_err-add
 returns-in_err-add g c =

@@ -1,21 +1,10 @@
-use Rattle.std.proofs.Common.{◌≡◌, ◌<◌, ◌≤◌, get_or, sym, refl, ◌∙◌, subst, arith}
+use Rattle.std.proofs.Common.{◌≡◌, ◌<◌, ◌≤◌, get_or, sym, ◌∙◌, subst, arith}
 use Rattle.std.proofs.lemmas.Bool.{both_ways}
 use Rattle.net.proofs.Counts.{unseen}
 use Rattle.net.proofs.Decoded.{byte_unseen, byte_on_path, byte_done}
-use Rattle.net.proofs.Searches.{going_first, fewer_unseen, ready_next, circle_met, going_past, going_after, kinds_kept, visited_here, visited_on, visited_all, going_room}
+use Rattle.net.proofs.Searches.{fewer_unseen, ready_next, circle_met, going_past, going_after, kinds_kept, visited_here, visited_all}
 use Rattle.net.proofs.circle.+visit.Goals as goal
 use Rattle.net.proofs.circle.+visit.Goals.{then-has_arc+in-Unseen+in_default, then-has_arc+in-Done, else-has_arc}
-
-pub loop-next-init : goal.loop-next-init
-loop-next-init g t c =
-    let net = c.args.net.now in
-    (refl, going_first _ _ (g.N.Net.ranged net).1 (g.N.Net.inside net) _ _ c.requires _ c.put.ensures.written)
-
-pub mark-requires : goal.mark-requires
-mark-requires g t c =
-    let net = c.args.net.now in
-    let room = going_room _ _ (g.N.Net.ranged net).1 (g.N.Net.inside net) _ _ c.requires _ c.put.ensures.written _ _ c.loop-next.invariant.1 in
-    omega (arith, (g.N.Net.ranged net).1)
 
 pub visit-requires : goal.visit-requires
 visit-requires g t c κs within =
@@ -24,15 +13,6 @@ visit-requires g t c κs within =
     let ready = ready_next _ _ (g.N.Net.ranged net).1 (g.N.Net.inside net) _ _ c.requires _ c.put.ensures.written _ _ c.loop-next.invariant.1 has (byte_unseen _ c.in-Unseen.ensures) in
     let less = fewer_unseen _ _ (g.N.Net.ranged net).1 (g.N.Net.inside net) _ _ c.requires _ c.put.ensures.written _ _ c.loop-next.invariant.1 in
     (subst (λ n. unseen c.loop-next.marks.bytes.now < n) c.decreases less, (within, ready))
-
-pub returns-in-Some : goal.returns-in-Some
-returns-in-Some g t c =
-    let net = c.args.net.now in
-    let met = c.in-Some.ensures in
-    record {
-      lent = met.lent ∙ c.loop-next.invariant.0 ∙ c.put.ensures.lent;
-      visited = visited_on _ _ (g.N.Net.ranged net).1 (g.N.Net.inside net) _ _ c.requires _ c.put.ensures.written _ _ c.loop-next.invariant.1 _ _ met.visited;
-    }
 
 pub returns-in-OnPath : goal.returns-in-OnPath
 returns-in-OnPath g t c =
@@ -60,12 +40,6 @@ loop-next-preserved g t c =
       | else-has_arc w ↦
           rw w.marks-is (c.loop-next.invariant.0, going_past _ _ (g.N.Net.ranged net).1 (g.N.Net.inside net) _ _ c.requires _ c.put.ensures.written _ _ going (λ h. absurd (both_ways _ (sym w.if-has_arc.ensures) h)))
     ]
-
-pub put-requires-2 : goal.put-requires-2
-put-requires-2 g t c =
-    let net = c.args.net.now in
-    let room = going_room _ _ (g.N.Net.ranged net).1 (g.N.Net.inside net) _ _ c.requires _ c.put.ensures.written _ _ c.loop-next.invariant.1 in
-    omega (arith, (g.N.Net.ranged net).1, c.requires.inside)
 
 pub returns : goal.returns
 returns g t c =

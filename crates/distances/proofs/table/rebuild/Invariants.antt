@@ -1,8 +1,0 @@
-use Rattle.std.proofs.Common.{take}
-use Rattle.engine.specs.Ways.{ways}
-use Rattle.distances.specs.Tables.{Tabled}
-use Rattle.distances.proofs.table.rebuild.Given as goal
-
--- the table of the differences so far
-abbrev pub invariant-loop-difference : goal.invariant-loop-difference
-invariant-loop-difference l = Tabled l.n (ways (take l.difference-index l.held)) l.table
