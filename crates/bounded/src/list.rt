@@ -1,5 +1,5 @@
 // A list of at most so many items.
-ghost use Rattle.std.specs.Prelude.{◌≡◌, ◌≤◌, length};
+ghost use Rattle.std.specs.Prelude.{◌≡◌, ◌≤◌, length, Some, codes};
 
 use std::alloc::AllocError;
 use std::error::Error;
@@ -13,6 +13,8 @@ pub mod getters;
 pub struct Full;
 
 impl fmt::Display for Full {
+    ghost output = { λ _. Some (codes "the list is full") };
+
     fn fmt<W: fmt::Write>(&self, f: &mut fmt::Formatter<W>) -> fmt::Result {
         f.write_str("the list is full")
     }

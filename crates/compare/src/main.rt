@@ -20,6 +20,7 @@ fn main(rt: HostRuntime) -> anyhow::Result<()> {
         let tally = pair::compare(&mut potential, &mut distance, events, turns);
         println!(rt; "{events} events, {turns} turns:")?;
         println!(rt; "{tally}")?;
+        println!(rt; "  answers that differ: {}", tally.differing())?;
     }
     if env::args(&rt)?.count() > 1 {
         bench::measure(&rt, "potentials", &mut potential)?;

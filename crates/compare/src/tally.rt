@@ -34,6 +34,11 @@ impl Tally {
         self.note_differing(usize::from(!agree));
     }
 
+    // How many answers differed. It is no part of what a tally prints, so that each line is one write.
+    pub(crate) fn differing(&self) -> usize {
+        self.differing
+    }
+
     pub(crate) fn note_differing(&mut self, answers: usize) {
         self.differing = self.differing.saturating_add(answers);
     }
@@ -41,11 +46,10 @@ impl Tally {
 
 impl fmt::Display for Tally {
     fn fmt<W: fmt::Write>(&self, f: &mut fmt::Formatter<W>) -> fmt::Result {
-        writeln!(
+        write!(
             f,
             "  added {}, dropped {}, refused: circle {}, out of range {}, full {}",
             self.held, self.dropped, self.circles, self.out_of_range, self.full
-        )?;
-        write!(f, "  answers that differ: {}", self.differing)
+        )
     }
 }

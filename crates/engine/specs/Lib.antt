@@ -1,4 +1,5 @@
 pub mod Refusals
+pub mod Words
 pub mod Circles
 pub mod States
 pub mod Lists

@@ -1,7 +1,8 @@
 // Why an engine refuses.
-ghost use Rattle.std.specs.Prelude.{◌≡◌};
+ghost use Rattle.std.specs.Prelude.{◌≡◌, Some};
 ghost use Rattle.engine.specs.declared.fault.EngineFault.TheVariants as faults;
 ghost use Rattle.engine.specs.Refusals.{told as told_engine};
+ghost use Rattle.engine.specs.Words.{words};
 
 use bounded::list::Full;
 use net::fault::{Fault, Layer, Refusal};
@@ -50,6 +51,8 @@ impl Fault for EngineFault {
 }
 
 impl fmt::Display for EngineFault {
+    ghost output = { λ f. Some (words f) };
+
     fn fmt<W: fmt::Write>(&self, f: &mut fmt::Formatter<W>) -> fmt::Result {
         f.write_str(match self {
             EngineFault::EventOutOfRange =>

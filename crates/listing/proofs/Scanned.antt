@@ -1,7 +1,7 @@
 -- The lowest number that passes a test, whether one passes, and sums.
-use Rattle.std.proofs.Common.{◌≡◌, ℕ, zero, suc, ◌<◌, Bool, true, false, ◌||◌, ltb, ◌⊎◌, ◌↔◌, refl, ap, ◌∙◌, subst, ap₂, inl, inr, arith, ltb-true, le-ltb, lt-ltb}
+use Rattle.std.proofs.Common.{◌≡◌, ℕ, zero, suc, ◌<◌, ◌≤◌, Bool, true, false, ◌||◌, ltb, ◌⊎◌, ◌↔◌, refl, sym, ap, ◌∙◌, subst, ap₂, inl, inr, arith, ltb-true, le-ltb, lt-ltb}
 use native.Mathlib.Decide.{ℕ_discrete, dec_lt}
-use Rattle.std.proofs.lemmas.Bool.{or_left, or_right, or_cases, both_ways}
+use Rattle.std.proofs.lemmas.Bool.{cases_lt, or_left, or_right, or_cases, both_ways}
 use Rattle.listing.specs.Scans.{Each, First, lowest, any, summed}
 
 -- none passes
@@ -53,6 +53,23 @@ lowest_below (suc n) test i h t = go (ltb (lowest n test) n) refl (test n) refl 
       | yes at ↦ absurd (both_ways (test n) k (ap test at ∙ t))
       | no other ↦ absurd (both_ways _ e (lt-ltb _ _ (before (omega arith))))
     ]
+
+-- no lower than one that passes
+pub lowest_most : (n : ℕ) (test : ℕ → Bool) (i : ℕ) → i < n → test i ≡ true → lowest n test ≤ i
+lowest_most zero test i h t = absurd (omega arith)
+lowest_most (suc n) test i h t = elim (cases_lt (lowest n test) n) [
+  | inl low ↦
+      let below : ltb (lowest n test) n ≡ true = lt-ltb _ _ low in
+      rw below (elim (cases_lt i n) [ inl k ↦ lowest_most n test i k t | inr past ↦ omega arith ])
+  | inr none ↦ elim (cases_lt i n) [
+    | inl k ↦ (let most = lowest_most n test i k t in absurd (omega arith))
+    | inr past ↦
+        let off : ltb (lowest n test) n ≡ false = le-ltb _ _ none in
+        let e : i ≡ n = omega arith in
+        let here : test n ≡ true = ap test (sym e) ∙ t in
+        rw (off, here) (omega arith)
+  ]
+]
 
 -- two tests that agree below n
 pub lowest_same : (n : ℕ) (a c : ℕ → Bool) → Each n (λ i. a i ≡ c i) → lowest n a ≡ lowest n c

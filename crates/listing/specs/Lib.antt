@@ -5,6 +5,7 @@ pub mod Shape
 pub mod Tables
 pub mod Listings
 pub mod Refusals
+pub mod Words
 pub mod Bytes
 pub mod Order
 pub mod Rules

@@ -1,7 +1,8 @@
 // Why bytes are not a listing.
-ghost use Rattle.std.specs.Prelude.{◌≡◌};
+ghost use Rattle.std.specs.Prelude.{◌≡◌, Some};
 ghost use Rattle.listing.specs.declared.fault.ListingFault.TheVariants as faults;
 ghost use Rattle.listing.specs.Refusals.{bytes_told, told as told_listing};
+ghost use Rattle.listing.specs.Words.{bytes_words, words};
 
 use net::fault::{Fault, Layer, Refusal};
 use std::error::Error;
@@ -82,6 +83,8 @@ impl Fault for ListingFault {
 }
 
 impl fmt::Display for BytesFault {
+    ghost output = { λ f. Some (bytes_words f) };
+
     fn fmt<W: fmt::Write>(&self, f: &mut fmt::Formatter<W>) -> fmt::Result {
         match self {
             BytesFault::Ended(length) => write!(
@@ -97,6 +100,8 @@ impl fmt::Display for BytesFault {
 }
 
 impl fmt::Display for ListingFault {
+    ghost output = { λ f. Some (words f) };
+
     fn fmt<W: fmt::Write>(&self, f: &mut fmt::Formatter<W>) -> fmt::Result {
         match self {
             ListingFault::Bytes(fault) => write!(f, "{fault}"),

@@ -1,4 +1,5 @@
 pub mod Refusals
+pub mod Words
 pub mod Marks
 pub mod Walks
 pub mod Visits

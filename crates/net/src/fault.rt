@@ -1,7 +1,8 @@
 // Refusals, and the two that a walk can give.
-ghost use Rattle.std.specs.Prelude.{◌≡◌};
+ghost use Rattle.std.specs.Prelude.{◌≡◌, Some};
 ghost use Rattle.net.specs.declared.fault.Refusal.{Refusal as Told};
 ghost use Rattle.net.specs.Refusals.{told as told_walk};
+ghost use Rattle.net.specs.Words.{refusal_words, words};
 
 use std::error::Error;
 use std::fmt;
@@ -25,6 +26,8 @@ pub struct Refusal {
 }
 
 impl fmt::Display for Refusal {
+    ghost output = { λ r. Some (refusal_words r) };
+
     fn fmt<W: fmt::Write>(&self, f: &mut fmt::Formatter<W>) -> fmt::Result {
         write!(f, "refused {} at {}", self.number, self.place)
     }
@@ -67,6 +70,8 @@ impl Fault for WalkFault {
 }
 
 impl fmt::Display for WalkFault {
+    ghost output = { λ f. Some (words f) };
+
     fn fmt<W: fmt::Write>(&self, f: &mut fmt::Formatter<W>) -> fmt::Result {
         f.write_str(match self {
             WalkFault::ShortMarks => "fewer than 96 mark bytes were lent",

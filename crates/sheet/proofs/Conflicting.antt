@@ -1,5 +1,5 @@
 -- The laws of conflict.
-use Rattle.std.proofs.Common.{◌≡◌, ℕ, true, not, ◌&&◌, eqb, ltb, ◌↔◌, sym, ap, ◌∙◌, arith}
+use Rattle.std.proofs.Common.{◌≡◌, ℕ, true, not, ◌&&◌, eqb, ltb, ◌↔◌, sym, refl, ap, ◌∙◌, arith}
 use Rattle.std.proofs.lemmas.Bool.{and_parts, and_from, ltb-true, lt-ltb, not-true, not_from_false, eqb-false, ne_eqb}
 use Rattle.std.proofs.lemmas.Bool.Decides.{same_from_decides, Decides-like}
 use Rattle.blocks.specs.Members.{shared, tally}
@@ -33,6 +33,12 @@ holds_conflict y a c k =
 -- so the test tells of conflict
 pub conflict_told : (y : Yard) (a c : ℕ) → (conflict y a c ≡ true) ↔ Conflict y a c
 conflict_told y a c = (conflict_holds y a c, holds_conflict y a c)
+
+-- and what computes it answers the test
+pub conflict_computed : (y : Yard) (a c : ℕ) →
+    conflict y a c ≡ ((ltb a y.places && ltb c y.places) && (not (eqb (y.owner a) (y.owner c)) && shared (y.blocks a) (y.blocks c)))
+unfolding conflict
+conflict_computed y a c = refl
 
 turned : (y : Yard) (a c : ℕ) → Conflict y a c → Conflict y c a
 turned y a c k = record {

@@ -4,6 +4,7 @@ pub mod Moving
 pub mod Lawful
 pub mod Checks
 pub mod Refusals
+pub mod Words
 pub mod Counts
 pub mod Sheets
 pub mod Answers

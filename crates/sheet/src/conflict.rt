@@ -7,14 +7,17 @@ ghost use Rattle.sheet.specs.Conflicts.{conflict, pairs};
 use listing::content::Listing;
 
 // Whether two places conflict.
-#[tactic(auto, unfolding(crate::specs::Conflicts::conflict))]
+#[tactic(auto, using(crate::proofs::Conflicting::conflict_computed))]
 pub(crate) fn in_conflict(listing: &Listing, first: usize, second: usize) -> bool
     ensures { result ≡ conflict (yard listing.now) first second }
 {
-    match (listing.place(first), listing.place(second)) {
-        (Some(a), Some(c)) => a.train != c.train && a.blocks.shares(c.blocks),
-        _ => false,
-    }
+    let Some(a) = listing.place(first) else {
+        return false;
+    };
+    let Some(c) = listing.place(second) else {
+        return false;
+    };
+    a.train != c.train && a.blocks.shares(c.blocks)
 }
 
 // How many places below the given one conflict with it.

@@ -1,8 +1,9 @@
 // Why a sheet is not read, or a train's net not walked.
-ghost use Rattle.std.specs.Prelude.{◌≡◌};
+ghost use Rattle.std.specs.Prelude.{◌≡◌, Some};
 ghost use Rattle.sheet.specs.declared.fault.TrainFault.TheVariants as train_faults;
 ghost use Rattle.sheet.specs.declared.fault.SheetFault.TheVariants as sheet_faults;
 ghost use Rattle.sheet.specs.Refusals.{told as told_sheet, told_train};
+ghost use Rattle.sheet.specs.Words.{words, train_words};
 
 use listing::fault::ListingFault;
 use net::fault::{Fault, Layer, Refusal, WalkFault};
@@ -57,6 +58,8 @@ impl Fault for SheetFault {
 }
 
 impl fmt::Display for SheetFault {
+    ghost output = { λ f. Some (words f) };
+
     fn fmt<W: fmt::Write>(&self, f: &mut fmt::Formatter<W>) -> fmt::Result {
         match self {
             SheetFault::Walk(fault) => write!(f, "{fault}"),
@@ -104,6 +107,8 @@ impl Fault for TrainFault {
 }
 
 impl fmt::Display for TrainFault {
+    ghost output = { λ f. Some (train_words f) };
+
     fn fmt<W: fmt::Write>(&self, f: &mut fmt::Formatter<W>) -> fmt::Result {
         match self {
             TrainFault::Walk(fault) => write!(f, "{fault}"),

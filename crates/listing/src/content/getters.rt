@@ -1,7 +1,6 @@
 // How the content is read.
-ghost use Rattle.std.specs.Prelude.{◌≡◌, ◌<◌, ◌≤◌, ◌≢◌, [], ◌∷◌, MatchOption, ◌==◌, position};
+ghost use Rattle.std.specs.Prelude.{◌≡◌, ◌<◌, ◌≤◌, ◌≢◌, [], ◌∷◌, MatchOption};
 ghost use Rattle.bounded.specs.Items.{items};
-ghost use Rattle.listing.specs.Moves.{some_leads};
 ghost use Rattle.listing.specs.Yards.{start as lowest_place, Same};
 ghost use Rattle.listing.specs.Listings.{yard, Read, lone, fresh};
 
@@ -39,20 +38,6 @@ fn lone_train(bits: u64) -> Listing
     }
 }
 
-// The lowest number of a place of a train.
-fn first_of(places: &[Place], train: usize) -> Option<usize>
-    ensures { result ≡ position (λ p. p.train == train) places.now }
-{
-    places.iter().position(|place| place.train == train)
-}
-
-// Whether one of the moves leads from a place to a destination.
-fn some_leads(moves: &[Move], from: usize, to: Destination) -> bool
-    ensures { result ≡ some_leads moves.now from to }
-{
-    moves.contains(&Move { from, to })
-}
-
 impl Listing {
     // One train in block 0 with one move, out.
     pub fn smallest() -> Listing
@@ -81,18 +66,32 @@ impl Listing {
         self.places.as_slice().get(place).copied()
     }
 
-    #[tactic(auto, using(crate::proofs::Listed::any_leads))]
+    #[tactic(auto, using(crate::proofs::Listed::any_leads, crate::proofs::Listed::leads_on, crate::proofs::Listed::leads_past))]
     pub fn has_move(&self, from: usize, to: Destination) -> bool
         ensures { result ≡ (yard self.now).move from to }
     {
-        some_leads(self.moves.as_slice(), from, to)
+        let moves = self.moves.as_slice();
+        // by number: the check follows a loop from its first number, but can't tell what a chain skips
+        for index in 0..moves.len() {
+            if moves[index] == (Move { from, to }) {
+                return true;
+            }
+        }
+        false
     }
 
     // The start of a train: its lowest-numbered place.
-    #[tactic(auto, using(crate::proofs::Listed::start_told))]
+    #[tactic(auto, using(crate::proofs::Listed::start_known, crate::proofs::Listed::owner_known, std::proofs::lemmas::Grind::common_steps))]
     pub fn start(&self, train: usize) -> Option<usize>
         ensures { MatchOption result ((yard self.now).trains ≤ train) (λ p. (train < (yard self.now).trains) × (p < (yard self.now).places) × (p ≡ lowest_place (yard self.now) train)) }
     {
-        first_of(self.places.as_slice(), train)
+        let places = self.places.as_slice();
+        // by number, as in `has_move`
+        for place in 0..places.len() {
+            if places[place].train == train {
+                return Some(place);
+            }
+        }
+        None
     }
 }
