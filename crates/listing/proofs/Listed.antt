@@ -1,20 +1,36 @@
 -- What a walk over the first entries of a table finds.
-use Rattle.std.proofs.Common.{◌≡◌, ℕ, zero, suc, ◌+◌, ◌<◌, ◌≤◌, Bool, false, ◌||◌, eqb, List, [], ◌∷◌, length, get_or, take, drop, refl, sym, ap, ◌∙◌, add-one, zero-add, arith}
+use Rattle.std.proofs.Common.{◌≡◌, ℕ, zero, suc, ◌+◌, ◌<◌, ◌≤◌, Bool, false, ◌&&◌, ◌||◌, eqb, List, [], ◌∷◌, length, get_or, take, drop, refl, sym, ap, ap₂, ◌∙◌, add-one, zero-add, arith}
 use Rattle.std.specs.List.{list_any, range_with_len}
 use Rattle.std.proofs.lemmas.Bool.{eq-eqb, eqb-true}
 use Rattle.std.proofs.lemmas.List.{take_all, at_drop_more, at_drop_all}
 use Rattle.std.proofs.lemmas.List.FromFn.{length-range_with_len, get_or-range_with_len}
 use Rattle.std.proofs.lemmas.List.Folds.{list_any_more}
 use Rattle.listing.specs.declared.place.Destination.{Destination}
+use Rattle.listing.specs.declared.place.Destination.TheVariants.{Place, Out}
 use Rattle.listing.specs.declared.place.Move.{Move}
 use Rattle.listing.specs.declared.content.Listing.{Listing}
 use Rattle.listing.specs.Listings.{yard}
 use Rattle.listing.proofs.Drawn.{drawn}
-use Rattle.listing.specs.Moves.{leads, some_leads}
+use Rattle.listing.specs.Moves.{same_destination, leads, some_leads}
+use Rattle.listing.specs.contracts.place.DestinationPartialEq.TheImpl as destinations
+use Rattle.listing.specs.contracts.place.MovePartialEq.TheImpl as moves
 use Rattle.listing.specs.Tables.{no_move, no_place}
 use Rattle.listing.specs.Scans.{any}
 use Rattle.listing.specs.Yards.{start}
 use Rattle.listing.proofs.Scanned.{any_same, lowest_passes, lowest_most}
+
+-- the derived `==` of two destinations says whether they are the same
+pub same_equal : (d e : Destination) → destinations.ghosts.eq d e ≡ same_destination d e
+same_equal (Place p) (Place q) = refl
+same_equal (Place p) Out = refl
+same_equal Out (Place q) = refl
+same_equal Out Out = refl
+
+-- the derived `==` of two moves says whether the one leads where the other does
+pub leads_equal : (ms : List Move) (p : ℕ) (d : Destination)
+    → list_any (λ m. moves.ghosts.eq m (record { from = p; to = d })) ms ≡ some_leads ms p d
+leads_equal [] p d = refl
+leads_equal (m ∷ ms) p d = ap₂ (λ here rest. (eqb m.from p && here) || rest) (same_equal m.to d) (leads_equal ms p d)
 
 some_listed : (ms : List Move) (p : ℕ) (d : Destination) → some_leads ms p d ≡ list_any (λ m. leads m p d) ms
 some_listed [] p d = refl

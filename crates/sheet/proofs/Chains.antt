@@ -40,7 +40,12 @@ summed_most : (n most : ℕ) (f : ℕ → ℕ) → ((k : ℕ) → k < n → f k 
 summed_most zero most f each = omega arith
 summed_most (suc n) most f each = omega (arith, summed_most n most f (λ k h. each k (omega arith)), each n (omega arith))
 
-tally_summed : (n : ℕ) (test : ℕ → Bool) → summed n (λ k. cond (test k) 1 0) ≡ tally n test
+-- a place adds at most one
+pub one_most : (b : Bool) → cond b 1 0 ≤ 1
+one_most true = omega arith
+one_most false = omega arith
+
+pub tally_summed : (n : ℕ) (test : ℕ → Bool) → summed n (λ k. cond (test k) 1 0) ≡ tally n test
 unfolding tally
 tally_summed zero test = refl
 tally_summed (suc n) test = ap (λ s. s + cond (test n) 1 0) (tally_summed n test)

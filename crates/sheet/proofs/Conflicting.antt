@@ -34,7 +34,7 @@ holds_conflict y a c k =
 pub conflict_told : (y : Yard) (a c : ℕ) → (conflict y a c ≡ true) ↔ Conflict y a c
 conflict_told y a c = (conflict_holds y a c, holds_conflict y a c)
 
--- and what computes it answers the test
+-- what the test computes
 pub conflict_computed : (y : Yard) (a c : ℕ) →
     conflict y a c ≡ ((ltb a y.places && ltb c y.places) && (not (eqb (y.owner a) (y.owner c)) && shared (y.blocks a) (y.blocks c)))
 unfolding conflict

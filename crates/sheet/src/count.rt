@@ -19,9 +19,10 @@ fn is_owner(listing: &Listing, place: usize, train: usize) -> bool
 pub(crate) fn places_of(listing: &Listing, train: usize) -> usize
     ensures { result ≡ own_places (yard listing.now) train }
 {
+    // a sum and no count of those that pass, since it does not branch at each place
     (0..listing.place_count())
-        .filter(|&place| is_owner(listing, place, train))
-        .count()
+        .map(|place| usize::from(is_owner(listing, place, train)))
+        .sum()
 }
 
 // How many moves lead from a place.

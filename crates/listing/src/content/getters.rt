@@ -60,6 +60,8 @@ impl Listing {
         self.places.len()
     }
 
+    // inlined, since the count of conflicts asks it for every pair of places
+    #[inline(always)]
     pub fn place(&self, place: usize) -> Option<Place>
         ensures { Read (yard self.now) place result }
     {
